@@ -57,7 +57,7 @@ requestIn b = bind (numberIn 8 b) (λ s. bind (numberIn 1 (s .1)) (λ j. bind (n
 abbrev pub responseIn : Bytes → Option Msg
 responseIn b =
     bind (numberIn 8 b) (λ s. bind (numberIn 1 (s .1)) (λ j. bind (numberIn 8 (j .1)) (λ q. bind (numberIn 8 (q .1)) (λ g.
-      cond (isBusy (g .1)) None (Some (Response (s .0) (j .0) (q .0) (g .0) (g .1)))))))
+    cond (isBusy (g .1)) None (Some (Response (s .0) (j .0) (q .0) (g .0) (g .1)))))))
 
 abbrev pub aliveIn : Bytes → Option Msg
 aliveIn b = bind (numberIn 8 b) (λ s. ended (Alive (s .0)) (s .1))
@@ -65,7 +65,7 @@ aliveIn b = bind (numberIn 8 b) (λ s. ended (Alive (s .0)) (s .1))
 abbrev pub kindIn : (kind : ℕ) → Bytes → Option Msg
 kindIn k b =
     cond (eqb k 1) (helloIn b) (cond (eqb k 2) (welcomeIn b) (cond (eqb k 3) (requestIn b)
-      (cond (eqb k 4) (responseIn b) (cond (eqb k 5) (aliveIn b) None))))
+    (cond (eqb k 4) (responseIn b) (cond (eqb k 5) (aliveIn b) None))))
 
 unfoldable pub bodyIn : Bytes → Option Msg
 bodyIn b = bind (numberIn 1 b) (λ k. kindIn (k .0) (k .1))

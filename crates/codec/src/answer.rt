@@ -31,7 +31,14 @@ pub enum Answer<'a> {
     No(Refusal),
     Yes,
     Edition(Edition),
-    Read { edition: Edition, whole: u32, bytes: &'a [u8] },
+    Read {
+        edition: Edition,
+        whole: u32,
+        bytes: &'a [u8],
+    },
     // so many names, each with its length before it, one behind the other
-    Names { count: u16, names: &'a [u8] },
+    Names {
+        count: u16,
+        names: &'a [u8],
+    },
 }

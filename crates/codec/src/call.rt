@@ -10,12 +10,39 @@ pub enum Expect {
 
 #[derive(Clone, Copy)]
 pub enum Call<'a> {
-    Read { name: &'a [u8], start: u32, most: u32 },
-    Put { name: &'a [u8], expect: Expect, bytes: &'a [u8] },
-    Patch { name: &'a [u8], at: u32, expect: Expect, bytes: &'a [u8] },
-    Remove { name: &'a [u8], expect: Expect },
-    Rename { name: &'a [u8], new: &'a [u8] },
-    Names { after: &'a [u8], most: u16 },
-    Take { name: &'a [u8], alone: bool },
-    LetGo { name: &'a [u8] },
+    Read {
+        name: &'a [u8],
+        start: u32,
+        most: u32,
+    },
+    Put {
+        name: &'a [u8],
+        expect: Expect,
+        bytes: &'a [u8],
+    },
+    Patch {
+        name: &'a [u8],
+        at: u32,
+        expect: Expect,
+        bytes: &'a [u8],
+    },
+    Remove {
+        name: &'a [u8],
+        expect: Expect,
+    },
+    Rename {
+        name: &'a [u8],
+        new: &'a [u8],
+    },
+    Names {
+        after: &'a [u8],
+        most: u16,
+    },
+    Take {
+        name: &'a [u8],
+        alone: bool,
+    },
+    LetGo {
+        name: &'a [u8],
+    },
 }

@@ -153,13 +153,13 @@ pub data Goes {M : Type 0} (h : Code M) (clock : ℕ → ℕ → ℕ) (all : ℕ
   first : Goes h clock all 0 [] (record { now = 0; who = λ i. cond (eqb i 0) (there (h .begins 0 all 0 (clock 0 0))) gone; letters = []; waits = []; drawn = 0 ∷ []; heard = λ i. 0 })
   time : {n : ℕ} {es : List Seen} {w : World (h .Mind) M} → Goes h clock all n es w → Goes h clock all (suc n) es (later w)
   hears : {n : ℕ} {es : List Seen} {w : World (h .Mind) M} (i : ℕ) (m : h .Mind) (l : Letter M) → i < all → Goes h clock all n es w → w .who i ≡ there m → List·Memᴰ l (w .letters) → l .to ≡ i →
-    Goes h clock all (suc n) (tells i (h .turns (From (l .by) (l .word)) (clock i (w .now)) m .does) ++ es) (turned h i (h .turns (From (l .by) (l .word)) (clock i (w .now)) m) (hearing i (l .by) (clock i (w .now)) w))
+      Goes h clock all (suc n) (tells i (h .turns (From (l .by) (l .word)) (clock i (w .now)) m .does) ++ es) (turned h i (h .turns (From (l .by) (l .word)) (clock i (w .now)) m) (hearing i (l .by) (clock i (w .now)) w))
   garbled : {n : ℕ} {es : List Seen} {w : World (h .Mind) M} (i j : ℕ) (m : h .Mind) (x : M) → i < all → T (h .noise x) → Goes h clock all n es w → w .who i ≡ there m →
-    Goes h clock all (suc n) (tells i (h .turns (From j x) (clock i (w .now)) m .does) ++ es) (turned h i (h .turns (From j x) (clock i (w .now)) m) w)
+      Goes h clock all (suc n) (tells i (h .turns (From j x) (clock i (w .now)) m .does) ++ es) (turned h i (h .turns (From j x) (clock i (w .now)) m) w)
   asked : {n : ℕ} {es : List Seen} {w : World (h .Mind) M} (i k : ℕ) (c : Bytes) (m : h .Mind) → 0 < i → i < all → k < 18446744073709551616 → T (allBytes c) → Goes h clock all n es w → w .who i ≡ there m → T (not (isUsed i k es)) →
-    Goes h clock all (suc n) (tells i (h .turns (Ask k c) (clock i (w .now)) m .does) ++ called i k c ∷ es) (turned h i (h .turns (Ask k c) (clock i (w .now)) m) (asking i k w))
+      Goes h clock all (suc n) (tells i (h .turns (Ask k c) (clock i (w .now)) m .does) ++ called i k c ∷ es) (turned h i (h .turns (Ask k c) (clock i (w .now)) m) (asking i k w))
   beats : {n : ℕ} {es : List Seen} {w : World (h .Mind) M} (i : ℕ) (m : h .Mind) → i < all → Goes h clock all n es w → w .who i ≡ there m →
-    Goes h clock all (suc n) (tells i (h .turns Beat (clock i (w .now)) m .does) ++ es) (turned h i (h .turns Beat (clock i (w .now)) m) w)
+      Goes h clock all (suc n) (tells i (h .turns Beat (clock i (w .now)) m .does) ++ es) (turned h i (h .turns Beat (clock i (w .now)) m) w)
   falls : {n : ℕ} {es : List Seen} {w : World (h .Mind) M} (i : ℕ) (m : h .Mind) → i < all → Goes h clock all n es w → w .who i ≡ there m → Goes h clock all (suc n) (fell i ∷ es) (darkened i m w)
   comes : {n : ℕ} {es : List Seen} {w : World (h .Mind) M} (i r : ℕ) → 0 < i → i < all → r < 18446744073709551616 → T (not (isIn r (w .drawn))) → Goes h clock all n es w → w .who i ≡ gone → Goes h clock all (suc n) es (begun h clock all i r w)
   lights : {n : ℕ} {es : List Seen} {w : World (h .Mind) M} (m : h .Mind) → Goes h clock all n es w → w .who 0 ≡ dark m → Goes h clock all (suc n) es (lit h clock m w)
@@ -190,7 +190,7 @@ pub data Table (m : Machine) : List Seen → m .State → List Open → List Rea
   comesIn : {es : List Seen} {s : m .State} {os : List Open} {rs : List Ready} {l e : ℕ → ℕ} (i k : ℕ) (c : Bytes) → Table m es s os rs l e → Table m (called i k c ∷ es) s (record { desk = i; number = k; life = l i; call = c } ∷ os) rs l e
   -- THE MOMENT of a call: its desk's hands were emptied for all earlier lives, and not for its own
   isDone : {es : List Seen} {s : m .State} {rs : List Ready} {l e : ℕ → ℕ} (xs ys : List Open) (o : Open) → Table m es s (xs ++ o ∷ ys) rs l e → o .life ≡ e (o .desk) →
-    Table m es (m .does (o .desk) (o .call) s .state) (xs ++ ys) (record { desk = o .desk; number = o .number; life = o .life; answer = m .does (o .desk) (o .call) s .answer } ∷ rs) l e
+      Table m es (m .does (o .desk) (o .call) s .state) (xs ++ ys) (record { desk = o .desk; number = o .number; life = o .life; answer = m .does (o .desk) (o .call) s .answer } ∷ rs) l e
   -- it is told in the life in which it was asked
   goesOut : {es : List Seen} {s : m .State} {os : List Open} {l e : ℕ → ℕ} (xs ys : List Ready) (r : Ready) → Table m es s os (xs ++ r ∷ ys) l e → r .life ≡ l (r .desk) → Table m (told (r .desk) (r .number) (r .answer) ∷ es) s os (xs ++ ys) l e
   handedBack : {es : List Seen} {s : m .State} {rs : List Ready} {l e : ℕ → ℕ} (xs ys : List Open) (o : Open) → Table m es s (xs ++ o ∷ ys) rs l e → o .life ≡ l (o .desk) → Table m (told (o .desk) (o .number) busy ∷ es) s (xs ++ ys) rs l e
@@ -223,9 +223,9 @@ pub data Between {M : Type 0} (h : Code M) (clock : ℕ → ℕ → ℕ) (me : �
   time : {n : ℕ} {es : List Seen} {v : World (h .Mind) M} → Between h clock me w n es v → Between h clock me w n es (later v)
   light : {n : ℕ} {es : List Seen} {v : World (h .Mind) M} (m : h .Mind) → Between h clock me w n es v → v .who 0 ≡ dark m → Between h clock me w (suc n) es (lit h clock m v)
   talk : {n : ℕ} {es : List Seen} {v : World (h .Mind) M} (i : ℕ) (m : h .Mind) (l : Letter M) (new : List (Letter M)) → (i ≡ 0) ⊎ (i ≡ me) → (l .by ≡ 0) ⊎ (l .by ≡ me) → Between h clock me w n es v → v .who i ≡ there m → v .letters ≡ new ++ w .letters → List·Memᴰ l new → l .to ≡ i →
-    Between h clock me w (suc n) (tells i (h .turns (From (l .by) (l .word)) (clock i (v .now)) m .does) ++ es) (turned h i (h .turns (From (l .by) (l .word)) (clock i (v .now)) m) (hearing i (l .by) (clock i (v .now)) v))
+      Between h clock me w (suc n) (tells i (h .turns (From (l .by) (l .word)) (clock i (v .now)) m .does) ++ es) (turned h i (h .turns (From (l .by) (l .word)) (clock i (v .now)) m) (hearing i (l .by) (clock i (v .now)) v))
   beat : {n : ℕ} {es : List Seen} {v : World (h .Mind) M} (i : ℕ) (m : h .Mind) → (i ≡ 0) ⊎ (i ≡ me) → Between h clock me w n es v → v .who i ≡ there m →
-    Between h clock me w (suc n) (tells i (h .turns Beat (clock i (v .now)) m .does) ++ es) (turned h i (h .turns Beat (clock i (v .now)) m) v)
+      Between h clock me w (suc n) (tells i (h .turns Beat (clock i (v .now)) m .does) ++ es) (turned h i (h .turns Beat (clock i (v .now)) m) v)
 
 -- within 120,000 ms of true time and 100 turns they come to where P holds of what was seen and is
 abbrev pub Within : {M : Type 0} → (h : Code M) → (clock : ℕ → ℕ → ℕ) → (me : ℕ) → World (h .Mind) M → (List Seen → World (h .Mind) M → Type 0) → Type 0
@@ -255,8 +255,8 @@ askedFor {M} h clock i k c m w = turned h i (h .turns (Ask k c) (clock i (w .now
 abbrev pub SeenByMonday : {M : Type 0} → Machine → Code M → Type 0
 SeenByMonday {M} m h = InEveryRun h (λ clock all es w.
     Within h clock 0 w (λ fs v. (i k : ℕ) (c r : Bytes) (x : h .Mind) → 0 < i → i < all → k < 18446744073709551616 → T (allBytes c) → v .who i ≡ there x →
-      T (not (isUsed i k (fs ++ es))) → countAt i (v .waits) < 8 → Sure m i c r →
-      Within h clock i (askedFor h clock i k c x v) (λ gs u. List·Memᴰ (told i k r) (gs ++ tells i (h .turns (Ask k c) (clock i (v .now)) x .does)))))
+    T (not (isUsed i k (fs ++ es))) → countAt i (v .waits) < 8 → Sure m i c r →
+    Within h clock i (askedFor h clock i k c x v) (λ gs u. List·Memᴰ (told i k r) (gs ++ tells i (h .turns (Ask k c) (clock i (v .now)) x .does)))))
 
 -- So that holds end only of a lost line, a fallen desk or a dark house: a desk that by what was seen may have something in hand, in this
 -- life, says something to the house at a beat when it has said nothing for 20,000 ms of its clock.

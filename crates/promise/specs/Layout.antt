@@ -62,8 +62,8 @@ isBusy a = eqb (length a) 2 && (eqb (getD a 0 0) 0 && eqb (getD a 1 0) eightWait
 abbrev pub expectIn : Bytes → Option (Expect × Bytes)
 expectIn b =
     bind (numberIn 1 b) (λ t.
-      cond (eqb (t .0) 0) (Some (Any, t .1))
-        (cond (eqb (t .0) 1) (bind (numberIn 8 (t .1)) (λ e. Some (Just' (e .0), e .1))) None))
+    cond (eqb (t .0) 0) (Some (Any, t .1))
+    (cond (eqb (t .0) 1) (bind (numberIn 8 (t .1)) (λ e. Some (Just' (e .0), e .1))) None))
 
 abbrev pub aloneIn : Bytes → Option (Bool × Bytes)
 aloneIn b = bind (numberIn 1 b) (λ t. cond (eqb (t .0) 0) (Some (false, t .1)) (cond (eqb (t .0) 1) (Some (true, t .1)) None))
@@ -77,7 +77,7 @@ putIn b = bind (lengthedIn 1 b) (λ n. bind (expectIn (n .1)) (λ e. bind (lengt
 abbrev pub patchIn : Bytes → Option Call
 patchIn b =
     bind (lengthedIn 1 b) (λ n. bind (numberIn 4 (n .1)) (λ a. bind (expectIn (a .1)) (λ e. bind (lengthedIn 4 (e .1)) (λ d.
-      ended (Patch (n .0) (a .0) (d .0) (e .0)) (d .1)))))
+    ended (Patch (n .0) (a .0) (d .0) (e .0)) (d .1)))))
 
 abbrev pub removeIn : Bytes → Option Call
 removeIn b = bind (lengthedIn 1 b) (λ n. bind (expectIn (n .1)) (λ e. ended (Remove (n .0) (e .0)) (e .1)))
@@ -98,7 +98,7 @@ letGoIn b = bind (lengthedIn 1 b) (λ n. ended (LetGo (n .0)) (n .1))
 abbrev pub callIn : (kind : ℕ) → Bytes → Option Call
 callIn k b =
     cond (eqb k 1) (readIn b) (cond (eqb k 2) (putIn b) (cond (eqb k 3) (patchIn b) (cond (eqb k 4) (removeIn b)
-      (cond (eqb k 5) (renameIn b) (cond (eqb k 6) (namesCallIn b) (cond (eqb k 7) (takeIn b) (cond (eqb k 8) (letGoIn b) None)))))))
+    (cond (eqb k 5) (renameIn b) (cond (eqb k 6) (namesCallIn b) (cond (eqb k 7) (takeIn b) (cond (eqb k 8) (letGoIn b) None)))))))
 
 unfoldable pub decodeCall : Bytes → Option Call
 decodeCall b = bind (numberIn 1 b) (λ k. callIn (k .0) (k .1))
@@ -117,7 +117,7 @@ foundIn b = bind (numberIn 2 b) (λ k. bind (namesIn (k .0) (k .1)) (λ ns. ende
 abbrev pub replyIn : (kind : ℕ) → Bytes → Option Reply
 replyIn k b =
     cond (eqb k 0) (bind (numberIn 1 b) (λ n. ended (No (n .0)) (n .1))) (cond (eqb k 1) (ended Yes b)
-      (cond (eqb k 2) (bind (numberIn 8 b) (λ e. ended (Edition (e .0)) (e .1))) (cond (eqb k 3) (gotIn b) (cond (eqb k 4) (foundIn b) None))))
+    (cond (eqb k 2) (bind (numberIn 8 b) (λ e. ended (Edition (e .0)) (e .1))) (cond (eqb k 3) (gotIn b) (cond (eqb k 4) (foundIn b) None))))
 
 unfoldable pub decodeReply : Bytes → Option Reply
 decodeReply b = bind (numberIn 1 b) (λ k. replyIn (k .0) (k .1))

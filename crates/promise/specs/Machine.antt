@@ -54,9 +54,10 @@ readsOnly can (Some c) = cond (can c) (not (changing c)) true
 
 abbrev pub sheets : (can : Call → Bool) → (room : ℕ) → Machine
 sheets can room = record {
-    State = State;
-    start = blank;
-    does = λ i b s. answered can room i (decodeCall b) s;
-    leaves = leaves;
-    reads = λ b. readsOnly can (decodeCall b);
-    inHand = λ i s. length (its i (s .holds)) }
+  State = State;
+  start = blank;
+  does = λ i b s. answered can room i (decodeCall b) s;
+  leaves = leaves;
+  reads = λ b. readsOnly can (decodeCall b);
+  inHand = λ i s. length (its i (s .holds));
+}

@@ -202,14 +202,14 @@ notIts i n hs = keep (λ (h : Hold). not (eqb i (h .desk) && same n (h .name))) 
 abbrev pub setTo : (room : ℕ) → Sheet → State → Out
 setTo room x s =
     cond (ltb room (weight (put x (s .sheets))) && ltb (weight (s .sheets)) (weight (put x (s .sheets)))) (no noRoom s)
-      (record { reply = Edition (x .edition); state = record { sheets = put x (s .sheets); holds = s .holds; changes' = x .edition } })
+    (record { reply = Edition (x .edition); state = record { sheets = put x (s .sheets); holds = s .holds; changes' = x .edition } })
 
 -- a change by a desk: not while another holds the sheet, only as expected, and changes are counted up to 2 to the 62
 abbrev pub changes : (room desk : ℕ) → Name → Expect → Bytes → State → Out
 changes room i n x bs s =
     cond (not (none (others i n s))) (no inOthersHand s)
-      (cond (not (asExpected x (editionOf (find (isSheet n) (s .sheets))))) (no otherEdition s)
-        (cond (leb 4611686018427387904 (s .changes')) (no usedUp s) (setTo room (record { name = n; bytes = bs; edition = s .changes' + 1 }) s)))
+    (cond (not (asExpected x (editionOf (find (isSheet n) (s .sheets))))) (no otherEdition s)
+    (cond (leb 4611686018427387904 (s .changes')) (no usedUp s) (setTo room (record { name = n; bytes = bs; edition = s .changes' + 1 }) s)))
 
 unfoldable pub reads : (from most : ℕ) → List Sheet → State → Out
 reads f m [] s = no missing s
@@ -225,21 +225,21 @@ unfoldable pub removes : ℕ → Name → Expect → List Sheet → State → Ou
 removes i n e [] s = no missing s
 removes i n e (x ∷ xs) s =
     cond (not (none (others i n s))) (no inOthersHand s) (cond (not (asExpected e (x .edition))) (no otherEdition s)
-      (record { reply = Yes; state = record { sheets = without n (s .sheets); holds = keep (λ (h : Hold). not (same n (h .name))) (s .holds); changes' = s .changes' } }))
+    (record { reply = Yes; state = record { sheets = without n (s .sheets); holds = keep (λ (h : Hold). not (same n (h .name))) (s .holds); changes' = s .changes' } }))
 
 -- renaming lets go; the sheet keeps its edition
 unfoldable pub renames : ℕ → (old new : Name) → List Sheet → State → Out
 renames i n k [] s = no missing s
 renames i n k (x ∷ xs) s =
     cond (not (none (others i n s)) || not (none (others i k s))) (no inOthersHand s)
-      (cond (not (none (find (isSheet k) (s .sheets)))) (no present s)
-        (record { reply = Yes; state = record { sheets = put (record { name = k; bytes = x .bytes; edition = x .edition }) (without n (s .sheets)); holds = keep (λ (h : Hold). not (same n (h .name))) (s .holds); changes' = s .changes' } }))
+    (cond (not (none (find (isSheet k) (s .sheets)))) (no present s)
+    (record { reply = Yes; state = record { sheets = put (record { name = k; bytes = x .bytes; edition = x .edition }) (without n (s .sheets)); holds = keep (λ (h : Hold). not (same n (h .name))) (s .holds); changes' = s .changes' } }))
 
 -- a sheet needn't be there to be held; taking anew says anew whether alone; a desk holds up to 64
 abbrev pub takes : ℕ → Name → Bool → State → Out
 takes i n a s =
     cond (barred i n s || (a && not (none (others i n s)))) (no inOthersHand s)
-      (cond (leb 64 (length (its i (notIts i n (s .holds))))) (no usedUp s) (record { reply = Yes; state = record { sheets = s .sheets; holds = record { desk = i; name = n; alone = a } ∷ notIts i n (s .holds); changes' = s .changes' } }))
+    (cond (leb 64 (length (its i (notIts i n (s .holds))))) (no usedUp s) (record { reply = Yes; state = record { sheets = s .sheets; holds = record { desk = i; name = n; alone = a } ∷ notIts i n (s .holds); changes' = s .changes' } }))
 
 abbrev pub letsGo : ℕ → Name → State → Out
 letsGo i n s = cond (some (λ (h : Hold). same n (h .name)) (its i (s .holds))) (record { reply = Yes; state = record { sheets = s .sheets; holds = notIts i n (s .holds); changes' = s .changes' } }) (no missing s)

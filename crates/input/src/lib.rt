@@ -1,0 +1,5 @@
+// Lines out of chunks of input, in memory that is reserved once.
+mod buffer;
+mod lines;
+
+pub use buffer::LineBuffer;
