@@ -1,0 +1,4 @@
+pub mod Numerals
+pub mod Writes
+pub mod Loops
+pub mod NameLoop

@@ -1,0 +1,5 @@
+pub mod Decimals
+pub mod Hex
+pub mod Names
+pub mod Readings
+pub mod Words
