@@ -1,0 +1,9 @@
+pub mod Order
+pub mod Kept
+pub mod Outcomes
+pub mod Away
+pub mod Rising
+pub mod Hands
+pub mod Tidy
+pub mod Held
+pub mod PutRead
