@@ -5,11 +5,15 @@ ghost use mathlib.Core.Path.{_≡_};
 ghost use Rattle.std.specs.Of.Vec.{vec-items};
 ghost use Rattle.std.specs.Vec.{made};
 use input::LineBuffer;
+use std::alloc::AllocError;
+use std::env;
+use std::error::AnyError;
 use std::io;
 use std::io::Read;
 use std::io::Write;
 use std::rt::Stderr;
 use std::rt::Stdout;
+use text::decimal::read_decimal;
 
 // A call of 1 MiB is a line of over two million characters; the largest one, with the longest name all in escapes, is 2,097,970.
 pub const LONGEST_LINE: usize = 2_101_248;
@@ -17,7 +21,7 @@ pub const LONGEST_LINE: usize = 2_101_248;
 // How much is read at once.
 const CHUNK: usize = 65_536;
 
-// Where lines are printed. A line is put together in `text`, and then said or complained of as a whole.
+// Where lines are printed. They are put together in `text`, each with its newline, and then said or complained of as a whole.
 #[derive(Drop)]
 pub struct Console {
     pub text: Vec<u8>,
@@ -26,31 +30,29 @@ pub struct Console {
 }
 
 impl Console {
-    pub fn new(rt: &LibcRuntime) -> Console
-        ensures { λ r. ⌜ vec-items (r .text) ≡ [] ⌝ }
+    // With room for any line that is printed.
+    pub fn reserve(rt: &LibcRuntime) -> Result<Console, AllocError>
+        ensures { λ r. ⌜ made r (λ c. vec-items (c .text) ≡ []) ⌝ }
     {
-        Console {
-            text: Vec::new(rt.alloc()),
-            out: rt.stdout(),
-            err: rt.stderr(),
-        }
+        let text = Vec::with_capacity(rt.alloc(), LONGEST_LINE)?;
+        let out = rt.stdout();
+        let err = rt.stderr();
+        Ok(Console { text, out, err })
     }
 
-    // Prints `text` as a line on standard output, and empties it.
+    // Prints `text` on standard output, and empties it.
     pub fn say(&mut self) -> io::Result<()>
         ensures { λ r. ⌜ made r (λ _. vec-items (now (self .exit) .text) ≡ []) ⌝ }
     {
-        self.text.push(b'\n')?;
         self.out.write_all(self.text.as_slice())?;
         self.text.clear();
         self.out.flush()
     }
 
-    // Prints `text` as a line on standard error, and empties it.
+    // Prints `text` on standard error, and empties it.
     pub fn complain(&mut self) -> io::Result<()>
         ensures { λ r. ⌜ made r (λ _. vec-items (now (self .exit) .text) ≡ []) ⌝ }
     {
-        self.text.push(b'\n')?;
         self.err.write_all(self.text.as_slice())?;
         self.text.clear();
         Ok(())
@@ -80,7 +82,7 @@ fn complete<H: Handler>(
 ) -> io::Result<()> {
     match buffer.line() {
         Some(line) => handler.line(number, line, console)?,
-        None => too_long(number, console)?,
+        None => report(number, "it is too long", console)?,
     }
     buffer.clear();
     Ok(())
@@ -121,7 +123,7 @@ fn last_line<H: Handler>(
 // Handles every line of standard input, to its end.
 pub fn handle_lines<H: Handler>(rt: &LibcRuntime, handler: &mut H) -> io::Result<()> {
     let heap = rt.alloc();
-    let mut console = Console::new(rt);
+    let mut console = Console::reserve(rt)?;
     let mut buffer = LineBuffer::reserve(heap, LONGEST_LINE)?;
     let mut chunk = vec![in heap; 0u8; CHUNK]?;
     let mut stdin = rt.stdin();
@@ -134,4 +136,22 @@ pub fn handle_lines<H: Handler>(rt: &LibcRuntime, handler: &mut H) -> io::Result
         number = chunk_lines(handler, number, &chunk[0..count], &mut buffer, &mut console)?;
     }
     last_line(handler, number, &mut buffer, &mut console)
+}
+
+// The numbers on the command line.
+pub fn number_arguments(rt: &LibcRuntime) -> Result<Vec<u64>, AnyError> {
+    let mut numbers = Vec::new(rt.alloc());
+    for word in env::args(rt)?.skip(1) {
+        let Some(n) = read_decimal(word.as_bytes(), u64::MAX) else {
+            return Err("an argument is not a number".into());
+        };
+        numbers.push(n)?;
+    }
+    Ok(numbers)
+}
+
+// Reports a line that says nothing, with its number and why.
+pub fn report(number: u64, why: &str, console: &mut Console) -> io::Result<()> {
+    write!(&mut console.text, "line {number}: {why}\n")?;
+    console.complain()
 }

@@ -7,3 +7,4 @@ pub mod Hands
 pub mod Tidy
 pub mod Held
 pub mod PutRead
+pub mod Worked

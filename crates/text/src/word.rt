@@ -2,7 +2,7 @@
 ghost use mathlib.Core.Path.{_≡_};
 ghost use Prim.Native.Nat.{ℕ, _+_, _≤_};
 ghost use lib.ListN.{length};
-ghost use Rattle.std.specs.Options.{mapped};
+ghost use Rattle.std.specs.Options.{mapped, Cases};
 ghost use Rattle.std.specs.shelf.Text.{sameBytes};
 ghost use Rattle.text.specs.Words.{wordLen, firstIn, wordIn, both};
 
@@ -27,7 +27,8 @@ fn word_len(line: &[u8]) -> usize
 
 // The word at the beginning, and the rest, which is empty or begins with a space.
 pub fn first_word<'a>(line: &'a [u8]) -> Option<(&'a [u8], &'a [u8])>
-    ensures { λ r. ⌜ mapped both r ≡ firstIn (now (line .entry)) ⌝ }
+    ensures value { λ r. ⌜ mapped both r ≡ firstIn (now (line .entry)) ⌝ }
+    ensures shorter { λ r. ⌜ Cases r (Unit {0}) (λ x. length (now (x .0)) + length (now (x .1)) ≤ length (now (line .entry))) ⌝ }
 {
     let n = word_len(line);
     if n == 0 {
@@ -38,7 +39,8 @@ pub fn first_word<'a>(line: &'a [u8]) -> Option<(&'a [u8], &'a [u8])>
 
 // The word behind a space, and the rest.
 pub fn next_word<'a>(rest: &'a [u8]) -> Option<(&'a [u8], &'a [u8])>
-    ensures { λ r. ⌜ mapped both r ≡ wordIn (now (rest .entry)) ⌝ }
+    ensures value { λ r. ⌜ mapped both r ≡ wordIn (now (rest .entry)) ⌝ }
+    ensures shorter { λ r. ⌜ Cases r (Unit {0}) (λ x. length (now (x .0)) + length (now (x .1)) ≤ length (now (rest .entry))) ⌝ }
 {
     if rest.len() == 0 || rest[0] != b' ' {
         return None;

@@ -1,0 +1,6 @@
+pub mod Fields
+pub mod CallLines
+pub mod Room
+pub mod Events
+pub mod Views
+pub mod Printed
