@@ -1,6 +1,5 @@
 -- The sum that stands in every message. It is quick to take, and changes whenever one word of 8 bytes does.
 -- Assumes nothing.
-use mathlib.Core.List.{List}
 use Prim.Native.Nat.{ℕ, zero, suc, _+_, _*_, _/_, _%_, _^_}
 use lib.Bits.{bitXor}
 use lib.ListN.{length, take, drop, replicate}
@@ -11,17 +10,23 @@ use Rattle.promise.specs.Bytes.{Bytes, number}
 unfoldable pub word : Bytes → ℕ → ℕ
 word b k = number (take 8 (drop (8 * k) b ++ replicate 8 0))
 
--- h xor its own upper half
+-- w xor its own upper half
 abbrev pub folded : ℕ → ℕ
-folded h = bitXor h (h / 4294967296)
+folded w = bitXor w (w / 2 ^ 32)
 
 abbrev pub mixed : (h word : ℕ) → ℕ
-mixed h w = folded (bitXor h w * 0x9E37_79B9_7F4A_7C15 % 2 ^ 64)
+mixed h w = bitXor h (folded w) * 0x9E37_79B9_7F4A_7C15 % 2 ^ 64
 
--- over the first words
-unfoldable pub sumTo : Bytes → (words : ℕ) → ℕ
-sumTo b zero = 0xCBF2_9CE4_8422_2325
-sumTo b (suc k) = mixed (sumTo b k) (word b k)
+-- Four lanes, so that a processor can take in four words at a time: the first has the words 0, 4, 8, .., the second 1, 5, 9, ..
+unfoldable pub laneTo : Bytes → (lane rounds : ℕ) → ℕ
+laneTo b l zero = 0xCBF2_9CE4_8422_2325 + l
+laneTo b l (suc k) = mixed (laneTo b l k) (word b (4 * k + l))
+
+abbrev pub joined : (h0 h1 h2 h3 : ℕ) → ℕ
+joined h0 h1 h2 h3 = mixed (mixed (mixed (mixed 0 h0) h1) h2) h3
+
+unfoldable pub sumTo : Bytes → (rounds : ℕ) → ℕ
+sumTo b n = joined (laneTo b 0 n) (laneTo b 1 n) (laneTo b 2 n) (laneTo b 3 n)
 
 unfoldable pub sumOf : Bytes → ℕ
-sumOf b = sumTo b ((length b + 7) / 8)
+sumOf b = sumTo b ((length b + 31) / 32)

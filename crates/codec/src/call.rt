@@ -46,3 +46,16 @@ pub enum Call<'a> {
         name: &'a [u8],
     },
 }
+
+// The first byte of a call says which it is.
+#[derive(Clone, Copy)]
+pub enum Kind {
+    Read = 1,
+    Put = 2,
+    Patch = 3,
+    Remove = 4,
+    Rename = 5,
+    Names = 6,
+    Take = 7,
+    LetGo = 8,
+}

@@ -7,7 +7,7 @@ use console::number_arguments;
 use console::report;
 use ids::Clock;
 use lines::event::read_house;
-use lines::print::write_sync;
+use printing::print::write_sync;
 use lines::scratch::Event;
 use lines::shape::Scratch;
 use settings::house_settings;

@@ -1,2 +1,5 @@
 pub mod Fitting
 pub mod Seen
+pub mod Inverse
+pub mod CallLaws
+pub mod LineLaws

@@ -32,9 +32,9 @@ most16 = 65535
 abbrev pub verbIn : Bytes → Option Verb
 verbIn w =
     cond (sameBytes w (codes "read")) (Some v.Read) (cond (sameBytes w (codes "put")) (Some v.Put)
-      (cond (sameBytes w (codes "patch")) (Some v.Patch) (cond (sameBytes w (codes "remove")) (Some v.Remove)
-        (cond (sameBytes w (codes "rename")) (Some v.Rename) (cond (sameBytes w (codes "names")) (Some v.Names)
-          (cond (sameBytes w (codes "take")) (Some v.Take) (cond (sameBytes w (codes "let")) (Some v.Let) None)))))))
+    (cond (sameBytes w (codes "patch")) (Some v.Patch) (cond (sameBytes w (codes "remove")) (Some v.Remove)
+    (cond (sameBytes w (codes "rename")) (Some v.Rename) (cond (sameBytes w (codes "names")) (Some v.Names)
+    (cond (sameBytes w (codes "take")) (Some v.Take) (cond (sameBytes w (codes "let")) (Some v.Let) None)))))))
 
 abbrev pub readLine : Bytes → Option t.Call
 readLine b =
@@ -46,7 +46,7 @@ putLine b = bind (nameWord b) (λ n. bind (expectWord (n .1)) (λ e. bind (hexWo
 abbrev pub patchLine : Bytes → Option t.Call
 patchLine b =
     bind (nameWord b) (λ n. bind (numberWord most32 (n .1)) (λ a. bind (expectWord (a .1)) (λ e. bind (hexWord (e .1)) (λ d.
-      ended (t.Patch (n .0) (a .0) (d .0) (e .0)) (d .1)))))
+    ended (t.Patch (n .0) (a .0) (d .0) (e .0)) (d .1)))))
 
 abbrev pub removeLine : Bytes → Option t.Call
 removeLine b = bind (nameWord b) (λ n. bind (expectWord (n .1)) (λ e. ended (t.Remove (n .0) (e .0)) (e .1)))
@@ -61,7 +61,7 @@ namesLine b = bind (nameWord b) (λ a. bind (numberWord most16 (a .1)) (λ m. en
 abbrev pub takeLine : Bytes → Option t.Call
 takeLine b =
     bind (wordIn b) (λ w. cond (eqb (length (w .1)) 0) (bind (nameWord b) (λ n. Some (t.Take (n .0) false)))
-      (cond (sameBytes (w .0) (codes "alone")) (bind (nameWord (w .1)) (λ n. ended (t.Take (n .0) true) (n .1))) None))
+    (cond (sameBytes (w .0) (codes "alone")) (bind (nameWord (w .1)) (λ n. ended (t.Take (n .0) true) (n .1))) None))
 
 -- `let go NAME`
 abbrev pub letLine : Bytes → Option t.Call

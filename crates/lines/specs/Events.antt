@@ -65,7 +65,7 @@ clockLine b = andThen (needed b) (λ w. andThen (okOr (decimalIn mostClock (w .0
 abbrev pub fromLine : Bytes → Result Event LineError
 fromLine b =
     andThen (needed b) (λ w. andThen (okOr (decimalIn most64 (w .0)) BadNumber) (λ j.
-      andThen (needed (w .1)) (λ h. andThen (okOr (hexIn (h .0)) BadHex) (λ bs. lastWord (From j bs) (h .1)))))
+    andThen (needed (w .1)) (λ h. andThen (okOr (hexIn (h .0)) BadHex) (λ bs. lastWord (From j bs) (h .1)))))
 
 abbrev pub isSeen : ℕ → Bool
 isSeen b = leb 33 b && leb b 126
@@ -82,7 +82,7 @@ syncLine b = andThen (needed b) (λ w. cond (allSeen (w .0)) (lastWord (Sync (w 
 abbrev pub plainLine : (word rest : Bytes) → Result Event LineError
 plainLine w b =
     cond (sameBytes w (codes "clock")) (clockLine b) (cond (sameBytes w (codes "from")) (fromLine b)
-      (cond (sameBytes w (codes "beat")) (lastWord Beat b) (cond (sameBytes w (codes "sync")) (syncLine b) (Err UnknownWord))))
+    (cond (sameBytes w (codes "beat")) (lastWord Beat b) (cond (sameBytes w (codes "sync")) (syncLine b) (Err UnknownWord))))
 
 abbrev pub houseLine : Bytes → Result Event LineError
 houseLine line = andThen (okOr (firstIn line) MissingWord) (λ w. cond (sameBytes (w .0) (codes "light")) (lastWord Light (w .1)) (plainLine (w .0) (w .1)))
@@ -109,7 +109,7 @@ shapeOf z (s.Clock c) = Clock (c .0)
 shapeOf z (s.From j) = From j (vec-items (z .bytes))
 shapeOf z s.Beat = Beat
 shapeOf z s.Light = Light
-shapeOf z (s.Sync w) = Sync (w .now)
+shapeOf z s.Sync = Sync (vec-items (z .bytes))
 shapeOf z (s.Asked k f) = Asked (k .0) (mapped (formed z) f)
 
 abbrev pub shaped : Scratch → Result Shape LineError → Result Event LineError

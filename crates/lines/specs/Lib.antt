@@ -3,4 +3,5 @@ pub mod CallLines
 pub mod Room
 pub mod Events
 pub mod Views
-pub mod Printed
+pub mod EventTexts
+pub mod Errors

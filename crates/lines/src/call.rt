@@ -39,7 +39,6 @@ pub(crate) fn verb_of(w: &[u8]) -> Option<Verb>
     }
 }
 
-
 fn fill_read(s: &mut Scratch, rest: &[u8]) -> Option<Form>
     requires { ⌜ Roomy (now s) (length (now rest)) ⌝ }
     ensures value { λ r. ⌜ mapped (formed (now (s .exit))) r ≡ readLine (now (rest .entry)) ⌝ }

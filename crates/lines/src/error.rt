@@ -1,4 +1,7 @@
 // Why a line is none.
+ghost use mathlib.Core.Path.{_≡_};
+ghost use Rattle.lines.specs.Errors.{errorText};
+
 #[derive(Clone, Copy)]
 pub enum LineError {
     UnknownWord,
@@ -14,15 +17,17 @@ pub enum LineError {
 
 impl LineError {
     // What is said of such a line.
-    pub fn text(self) -> &'static str {
+    pub fn text(self) -> &'static str
+        ensures { λ r. ⌜ now r ≡ errorText self ⌝ }
+    {
         match self {
-            LineError::UnknownWord => "it begins with no word that is known here",
+            LineError::UnknownWord => "unknown word",
             LineError::MissingWord => "a word is missing",
-            LineError::ExtraWord => "there is a word too many",
-            LineError::BadNumber => "a number is malformed or out of range",
-            LineError::BadHex => "the hexadecimal is malformed",
-            LineError::BadWord => "the word has a byte that cannot be printed",
-            LineError::NoRoom => "it is too long",
+            LineError::ExtraWord => "a word too many",
+            LineError::BadNumber => "a bad number",
+            LineError::BadHex => "bad hexadecimal",
+            LineError::BadWord => "a byte that cannot be seen",
+            LineError::NoRoom => "too long",
         }
     }
 }

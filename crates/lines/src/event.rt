@@ -2,9 +2,11 @@
 ghost use mathlib.Core.Path.{_≡_};
 ghost use Prim.Native.Nat.{ℕ, _≤_};
 ghost use lib.ListN.{length};
+ghost use Rattle.std.specs.Of.Vec.{vec-items, vec-cap};
 ghost use Rattle.std.specs.Options.{mapped, Cases};
 ghost use Rattle.std.specs.declared.result.Result.the-variants.{Err};
 ghost use Rattle.lines.specs.Events.{clockLine, fromLine, isSeen, allSeen, syncLine, plainLine, houseLine, askedIn, askedView, deskLine, shaped, lastWord};
+ghost use Rattle.lines.specs.EventTexts.{WrittenBack};
 ghost use Rattle.lines.specs.Room.{Roomy, SameRoom};
 use crate::call::fill_call;
 use crate::call::verb_of;
@@ -24,13 +26,17 @@ use text::word::same_bytes;
 const MOST_CLOCK: u64 = 9223372036854775807;
 
 // The shape, if no word follows.
-fn last_word<'a>(shape: Shape<'a>, rest: &[u8]) -> Result<Shape<'a>, LineError>
-    ensures { λ r. ⌜ r ≡ lastWord (shape .entry) (now (rest .entry)) ⌝ }
+fn last_word(shape: Shape, rest: &[u8]) -> Result<Shape, LineError>
+    ensures { λ r. ⌜ r ≡ lastWord shape (now (rest .entry)) ⌝ }
 {
-    if rest.len() == 0 { Ok(shape) } else { Err(LineError::ExtraWord) }
+    if rest.len() == 0 {
+        Ok(shape)
+    } else {
+        Err(LineError::ExtraWord)
+    }
 }
 
-fn read_clock<'a>(rest: &'a [u8]) -> Result<Shape<'a>, LineError>
+fn read_clock(rest: &[u8]) -> Result<Shape, LineError>
     ensures { λ r. ⌜ ((z : Scratch) → shaped z r ≡ clockLine (now (rest .entry))) ⌝ }
 {
     let Some((w, rest)) = next_word(rest) else {
@@ -42,7 +48,7 @@ fn read_clock<'a>(rest: &'a [u8]) -> Result<Shape<'a>, LineError>
     last_word(Shape::Clock(Clock(time)), rest)
 }
 
-fn read_from<'a>(s: &mut Scratch, rest: &'a [u8]) -> Result<Shape<'a>, LineError>
+fn read_from(s: &mut Scratch, rest: &[u8]) -> Result<Shape, LineError>
     requires { ⌜ Roomy (now s) (length (now rest)) ⌝ }
     ensures value { λ r. ⌜ shaped (now (s .exit)) r ≡ fromLine (now (rest .entry)) ⌝ }
     ensures room { λ _. ⌜ SameRoom (now (s .entry)) (now (s .exit)) ⌝ }
@@ -79,8 +85,23 @@ fn all_seen(w: &[u8]) -> bool
     true
 }
 
-fn read_sync<'a>(rest: &'a [u8]) -> Result<Shape<'a>, LineError>
-    ensures { λ r. ⌜ ((z : Scratch) → shaped z r ≡ syncLine (now (rest .entry))) ⌝ }
+// The buffer holds the word, and nothing else.
+fn hold(buf: &mut Vec<u8>, w: &[u8])
+    requires { ⌜ length (now w) ≤ vec-cap (now buf) ⌝ }
+    ensures items { λ _. ⌜ vec-items (now (buf .exit)) ≡ now (w .entry) ⌝ }
+    ensures cap { λ _. ⌜ vec-cap (now (buf .exit)) ≡ vec-cap (now (buf .entry)) ⌝ }
+{
+    buf.clear();
+    for b in w {
+        buf.push_reserved(*b);
+    }
+}
+
+// The word is kept in the buffer for bytes.
+fn read_sync(s: &mut Scratch, rest: &[u8]) -> Result<Shape, LineError>
+    requires { ⌜ Roomy (now s) (length (now rest)) ⌝ }
+    ensures value { λ r. ⌜ shaped (now (s .exit)) r ≡ syncLine (now (rest .entry)) ⌝ }
+    ensures room { λ _. ⌜ SameRoom (now (s .entry)) (now (s .exit)) ⌝ }
 {
     let Some((w, rest)) = next_word(rest) else {
         return Err(LineError::MissingWord);
@@ -88,11 +109,15 @@ fn read_sync<'a>(rest: &'a [u8]) -> Result<Shape<'a>, LineError>
     if !all_seen(w) {
         return Err(LineError::BadWord);
     }
-    last_word(Shape::Sync(w), rest)
+    if !rest.is_empty() {
+        return Err(LineError::ExtraWord);
+    }
+    hold(&mut s.bytes, w);
+    Ok(Shape::Sync)
 }
 
 // What house and desks both read, by the first word.
-fn read_plain<'a>(s: &mut Scratch, w: &[u8], rest: &'a [u8]) -> Result<Shape<'a>, LineError>
+fn read_plain(s: &mut Scratch, w: &[u8], rest: &[u8]) -> Result<Shape, LineError>
     requires { ⌜ Roomy (now s) (length (now rest)) ⌝ }
     ensures value { λ r. ⌜ shaped (now (s .exit)) r ≡ plainLine (now (w .entry)) (now (rest .entry)) ⌝ }
     ensures room { λ _. ⌜ SameRoom (now (s .entry)) (now (s .exit)) ⌝ }
@@ -104,7 +129,7 @@ fn read_plain<'a>(s: &mut Scratch, w: &[u8], rest: &'a [u8]) -> Result<Shape<'a>
     } else if same_bytes(w, b"beat") {
         last_word(Shape::Beat, rest)
     } else if same_bytes(w, b"sync") {
-        read_sync(rest)
+        read_sync(s, rest)
     } else {
         Err(LineError::UnknownWord)
     }
@@ -121,8 +146,7 @@ fn asked<'a>(w: &[u8], rest: &'a [u8]) -> Option<(u64, Verb, &'a [u8])>
     Some((number, verb, rest))
 }
 
-// A line at the house.
-pub fn read_house<'a>(s: &mut Scratch, line: &'a [u8]) -> Result<Shape<'a>, LineError>
+fn house_shape(s: &mut Scratch, line: &[u8]) -> Result<Shape, LineError>
     ensures value { λ r. ⌜ (Roomy (now (s .entry)) (length (now (line .entry))) → shaped (now (s .exit)) r ≡ houseLine (now (line .entry))) ⌝ }
     ensures refused { λ r. ⌜ ((Roomy (now (s .entry)) (length (now (line .entry))) → ⊥) → r ≡ Err LineError.NoRoom) ⌝ }
     ensures room { λ _. ⌜ SameRoom (now (s .entry)) (now (s .exit)) ⌝ }
@@ -139,8 +163,17 @@ pub fn read_house<'a>(s: &mut Scratch, line: &'a [u8]) -> Result<Shape<'a>, Line
     read_plain(s, w, rest)
 }
 
-// A line at a desk.
-pub fn read_desk<'a>(s: &mut Scratch, line: &'a [u8]) -> Result<Shape<'a>, LineError>
+// A line at the house.
+pub fn read_house(s: &mut Scratch, line: &[u8]) -> Result<Shape, LineError>
+    ensures value { λ r. ⌜ (Roomy (now (s .entry)) (length (now (line .entry))) → shaped (now (s .exit)) r ≡ houseLine (now (line .entry))) ⌝ }
+    ensures refused { λ r. ⌜ ((Roomy (now (s .entry)) (length (now (line .entry))) → ⊥) → r ≡ Err LineError.NoRoom) ⌝ }
+    ensures room { λ _. ⌜ SameRoom (now (s .entry)) (now (s .exit)) ⌝ }
+    ensures law { λ _. ⌜ WrittenBack houseLine (now (line .entry)) ⌝ }
+{
+    house_shape(s, line)
+}
+
+fn desk_shape(s: &mut Scratch, line: &[u8]) -> Result<Shape, LineError>
     ensures value { λ r. ⌜ (Roomy (now (s .entry)) (length (now (line .entry))) → shaped (now (s .exit)) r ≡ deskLine (now (line .entry))) ⌝ }
     ensures refused { λ r. ⌜ ((Roomy (now (s .entry)) (length (now (line .entry))) → ⊥) → r ≡ Err LineError.NoRoom) ⌝ }
     ensures room { λ _. ⌜ SameRoom (now (s .entry)) (now (s .exit)) ⌝ }
@@ -158,4 +191,14 @@ pub fn read_desk<'a>(s: &mut Scratch, line: &'a [u8]) -> Result<Shape<'a>, LineE
         }
         None => read_plain(s, w, rest),
     }
+}
+
+// A line at a desk.
+pub fn read_desk(s: &mut Scratch, line: &[u8]) -> Result<Shape, LineError>
+    ensures value { λ r. ⌜ (Roomy (now (s .entry)) (length (now (line .entry))) → shaped (now (s .exit)) r ≡ deskLine (now (line .entry))) ⌝ }
+    ensures refused { λ r. ⌜ ((Roomy (now (s .entry)) (length (now (line .entry))) → ⊥) → r ≡ Err LineError.NoRoom) ⌝ }
+    ensures room { λ _. ⌜ SameRoom (now (s .entry)) (now (s .exit)) ⌝ }
+    ensures law { λ _. ⌜ WrittenBack deskLine (now (line .entry)) ⌝ }
+{
+    desk_shape(s, line)
 }

@@ -1,8 +1,7 @@
-// The lines that house and desks read and print.
+// The lines that house and desks read.
 pub(crate) mod call;
 pub mod error;
 pub mod event;
 pub(crate) mod field;
-pub mod print;
 pub mod scratch;
 pub mod shape;

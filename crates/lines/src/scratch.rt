@@ -18,7 +18,7 @@ use std::alloc::AllocError;
 use std::alloc::Global;
 use text::name::LONGEST;
 
-// What a line says. Names and bytes are parts of the buffers; the word of `sync` is a part of the line.
+// What a line says. Names, bytes and the word of `sync` are parts of the buffers.
 #[derive(Clone, Copy)]
 pub enum Event<'a> {
     Clock(Clock),
@@ -32,7 +32,9 @@ pub enum Event<'a> {
 pub(crate) fn has_room(s: &Scratch, size: usize) -> bool
     ensures { λ r. ⌜ Decides r (Roomy (now (s .entry)) size) ⌝ }
 {
-    s.name.capacity() >= LONGEST && s.new.capacity() >= LONGEST && s.bytes.capacity() >= size / 2 + size % 2
+    s.name.capacity() >= LONGEST
+        && s.new.capacity() >= LONGEST
+        && s.bytes.capacity() >= size
 }
 
 impl Scratch {
@@ -42,7 +44,7 @@ impl Scratch {
     {
         let name = Vec::with_capacity(heap, LONGEST)?;
         let new = Vec::with_capacity(heap, LONGEST)?;
-        let bytes = Vec::with_capacity(heap, size / 2 + size % 2)?;
+        let bytes = Vec::with_capacity(heap, size)?;
         Ok(Scratch { name, new, bytes })
     }
 
@@ -54,8 +56,17 @@ impl Scratch {
         let bytes = self.bytes.as_slice();
         match form {
             Form::Read { start, most } => Call::Read { name, start, most },
-            Form::Put { expect } => Call::Put { name, expect, bytes },
-            Form::Patch { at, expect } => Call::Patch { name, at, expect, bytes },
+            Form::Put { expect } => Call::Put {
+                name,
+                expect,
+                bytes,
+            },
+            Form::Patch { at, expect } => Call::Patch {
+                name,
+                at,
+                expect,
+                bytes,
+            },
             Form::Remove { expect } => Call::Remove { name, expect },
             Form::Rename => Call::Rename { name, new },
             Form::Names { most } => Call::Names { after: name, most },
@@ -65,15 +76,15 @@ impl Scratch {
     }
 
     // What the line that was read last says; `shape` is what its reader gave.
-    pub fn event<'a>(&'a self, shape: Shape<'a>) -> Event<'a>
-        ensures { λ r. ⌜ eventOf r ≡ shapeOf (now (self .entry)) (shape .entry) ⌝ }
+    pub fn event<'a>(&'a self, shape: Shape) -> Event<'a>
+        ensures { λ r. ⌜ eventOf r ≡ shapeOf (now (self .entry)) shape ⌝ }
     {
         match shape {
             Shape::Clock(time) => Event::Clock(time),
             Shape::From(from) => Event::From(from, self.bytes.as_slice()),
             Shape::Beat => Event::Beat,
             Shape::Light => Event::Light,
-            Shape::Sync(word) => Event::Sync(word),
+            Shape::Sync => Event::Sync(self.bytes.as_slice()),
             Shape::Asked(number, Some(form)) => Event::Asked(number, Some(self.call(form))),
             Shape::Asked(number, None) => Event::Asked(number, None),
         }

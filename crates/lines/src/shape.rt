@@ -29,15 +29,16 @@ pub enum Form {
     LetGo,
 }
 
-// A line without its names and bytes; `sync` has its word in the line.
+// A line without its names and bytes, which are in the buffers.
 #[derive(Clone, Copy)]
-pub enum Shape<'a> {
+pub enum Shape {
     Clock(Clock),
     // who it is from
     From(u64),
     Beat,
     Light,
-    Sync(&'a [u8]),
+    // its word is in the buffer for bytes
+    Sync,
     // a call that cannot be put into bytes has no form
     Asked(CallNumber, Option<Form>),
 }

@@ -114,10 +114,18 @@ gotIn b = bind (numberIn 8 b) (λ e. bind (numberIn 4 (e .1)) (λ w. bind (lengt
 abbrev pub foundIn : Bytes → Option Reply
 foundIn b = bind (numberIn 2 b) (λ k. bind (namesIn (k .0) (k .1)) (λ ns. ended (Found (ns .0)) (ns .1)))
 
+abbrev pub noIn : Bytes → Option Reply
+noIn b = bind (numberIn 1 b) (λ n. ended (No (n .0)) (n .1))
+
+abbrev pub yesIn : Bytes → Option Reply
+yesIn b = ended Yes b
+
+abbrev pub editionIn : Bytes → Option Reply
+editionIn b = bind (numberIn 8 b) (λ e. ended (Edition (e .0)) (e .1))
+
 abbrev pub replyIn : (kind : ℕ) → Bytes → Option Reply
 replyIn k b =
-    cond (eqb k 0) (bind (numberIn 1 b) (λ n. ended (No (n .0)) (n .1))) (cond (eqb k 1) (ended Yes b)
-    (cond (eqb k 2) (bind (numberIn 8 b) (λ e. ended (Edition (e .0)) (e .1))) (cond (eqb k 3) (gotIn b) (cond (eqb k 4) (foundIn b) None))))
+    cond (eqb k 0) (noIn b) (cond (eqb k 1) (yesIn b) (cond (eqb k 2) (editionIn b) (cond (eqb k 3) (gotIn b) (cond (eqb k 4) (foundIn b) None))))
 
 unfoldable pub decodeReply : Bytes → Option Reply
 decodeReply b = bind (numberIn 1 b) (λ k. replyIn (k .0) (k .1))
@@ -125,3 +133,7 @@ decodeReply b = bind (numberIn 1 b) (λ k. replyIn (k .0) (k .1))
 -- ON A LINE between a caller and a desk: length of the rest (4), the call's number (8), the call or its answer
 abbrev pub framed : (number : ℕ) → Bytes → Bytes
 framed k b = be 4 (8 + length b) ++ (be 8 k ++ b)
+
+-- the first frame of what came on a line: its number and its bytes, and what follows it; None where it isn't all there
+abbrev pub frameIn : Bytes → Option (ℕ × Bytes × Bytes)
+frameIn b = bind (lengthedIn 4 b) (λ f. bind (numberIn 8 (f .0)) (λ k. Some (k .0, k .1, f .1)))

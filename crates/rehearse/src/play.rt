@@ -5,7 +5,7 @@ use console::Console;
 use console::report;
 use ids::CallNumber;
 use lines::event::read_desk;
-use lines::print::write_answer;
+use printing::told::write_answer;
 use lines::shape::Scratch;
 use lines::shape::Shape;
 use script::step::Step;
@@ -92,7 +92,7 @@ impl Play {
         console.say()
     }
 
-    fn call(&mut self, number: u64, desk: u8, shape: Shape<'_>, console: &mut Console) -> io::Result<()> {
+    fn call(&mut self, number: u64, desk: u8, shape: Shape, console: &mut Console) -> io::Result<()> {
         let Shape::Asked(call, _) = shape else {
             return report(number, "it is no call", console);
         };

@@ -64,6 +64,7 @@ hex-line w bs e = go (sameBytes w (codes "-")) refl e
     some [] f = let z : _≡_ {A = ℕ} 0 1 = cc in absurd (omega arith)
     some (x ∷ v) f =
         text-of bs x v (pairs-line (x ∷ v) bs (sym (ap (λ (t : Bool). cond t None (pairsIn (x ∷ v))) (ne-eqb (length (x ∷ v)) 0 (λ q. omega arith))) ∙ f))
+
     go : (t : Bool) → sameBytes w (codes "-") ≡ t → cond t (Some []) (cond (eqb (length w) 0) None (pairsIn w)) ≡ Some bs → hexText bs ≡ w
     go true q f = let k : bs ≡ [] = cc in ap hexText k ∙ sym (sameBytes-decides w (codes "-") .0 q)
     go false q f = some w f
@@ -77,6 +78,7 @@ bytes-head b bs e = (ltb-true b 256 (and-left (ltb b 256) (allBytes bs) e), and-
     and-left : (s t : Bool) → (s && t) ≡ true → s ≡ true
     and-left true t q = refl
     and-left false t q = q
+
     and-right : (s t : Bool) → (s && t) ≡ true → t ≡ true
     and-right true t q = q
     and-right false t q = let z : _≡_ {A = ℕ} 0 1 = cc in absurd (omega arith)

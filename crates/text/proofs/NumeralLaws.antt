@@ -100,8 +100,10 @@ digits-again most n l h = decimal-by-steps (λ k ds. k ≤ most → decimalFrom 
   where
     one : (k : ℕ) → k < 10 → k ≤ most → decimalFrom most 0 ((48 + k) ∷ []) ≡ Some k
     one k a b = grind arith
+
     digit : (k : ℕ) → 10 ≤ k → k ≤ most → digitAfter most (k / 10) (48 + k % 10) ≡ Some k
     digit k a b = grind arith
+
     more : (k : ℕ) (ds : Bytes) → 10 ≤ k → (k / 10 ≤ most → decimalFrom most 0 ds ≡ Some (k / 10)) → k ≤ most → decimalFrom most 0 (ds ++ ((48 + k % 10) ∷ [])) ≡ Some k
     more k ds a i b =
         let s : k / 10 ≤ most = omega arith in

@@ -3,3 +3,4 @@ pub mod Hex
 pub mod Names
 pub mod Readings
 pub mod Words
+pub mod Laws

@@ -9,6 +9,7 @@ ghost use Rattle.std.specs.Of.Vec.{vec-len, vec-items, vec-cap};
 ghost use Rattle.std.specs.Options.{Cases};
 ghost use Rattle.std.specs.Results.{isOk};
 ghost use Rattle.std.specs.declared.option.Option.the-variants.{Some};
+ghost use Rattle.text.specs.Laws.{WrittenBack, DecimalAgain};
 ghost use Rattle.text.specs.Decimals.{digitAfter, decimalFrom, decimalIn, decimalText};
 use crate::room::NoRoom;
 
@@ -42,6 +43,7 @@ fn digits_from(most: u64, w: &[u8]) -> Option<u64>
 pub fn read_decimal(w: &[u8], most: u64) -> Option<u64>
     ensures value { λ r. ⌜ r ≡ decimalIn most (now (w .entry)) ⌝ }
     ensures bound { λ r. ⌜ Cases r (Unit {0}) (λ n. n ≤ most) ⌝ }
+    ensures law { λ _. ⌜ WrittenBack (decimalIn most) decimalText (now (w .entry)) ⌝ }
 {
     match w {
         [] => None,
@@ -70,6 +72,7 @@ pub fn write_decimal(out: &mut Vec<u8>, n: u64) -> Result<(), NoRoom>
     ensures items { λ r. ⌜ vec-items (now (out .exit)) ≡ cond (isOk r) (vec-items (now (out .entry)) ++ decimalText n) (vec-items (now (out .entry))) ⌝ }
     ensures len { λ _. ⌜ vec-len (now (out .exit)) ≤ vec-len (now (out .entry)) + 20 ⌝ }
     ensures cap { λ _. ⌜ vec-cap (now (out .exit)) ≡ vec-cap (now (out .entry)) ⌝ }
+    ensures law { λ _. ⌜ DecimalAgain n ⌝ }
 {
     if out.capacity().saturating_sub(out.len()) < DIGITS {
         return Err(NoRoom);

@@ -9,6 +9,7 @@ ghost use Rattle.std.specs.Of.Vec.{vec-len, vec-items, vec-cap};
 ghost use Rattle.std.specs.Options.{Cases, okOr};
 ghost use Rattle.std.specs.Results.{isOk};
 ghost use Rattle.std.specs.declared.result.Result.the-variants.{Err};
+ghost use Rattle.text.specs.Laws.{WrittenBack, HexAgain};
 ghost use Rattle.text.specs.Readings.{ahead, kept, readAs};
 ghost use Rattle.text.specs.Hex.{hexDigit, hexValue, hexPairs, hexText, pairValue, pairsIn, hexIn};
 use crate::room::NoRoom;
@@ -51,6 +52,7 @@ pub fn write_hex(out: &mut Vec<u8>, bytes: &[u8]) -> Result<(), NoRoom>
     ensures items { λ r. ⌜ vec-items (now (out .exit)) ≡ cond (isOk r) (vec-items (now (out .entry)) ++ hexText (now (bytes .entry))) (vec-items (now (out .entry))) ⌝ }
     ensures len { λ _. ⌜ vec-len (now (out .exit)) ≤ vec-len (now (out .entry)) + (2 * length (now (bytes .entry)) + 1) ⌝ }
     ensures cap { λ _. ⌜ vec-cap (now (out .exit)) ≡ vec-cap (now (out .entry)) ⌝ }
+    ensures law { λ _. ⌜ HexAgain (now (bytes .entry)) ⌝ }
 {
     let room = out.capacity().saturating_sub(out.len());
     if room == 0 || (room - 1) / 2 < bytes.len() {
@@ -88,8 +90,7 @@ fn read_pairs(out: &mut Vec<u8>, w: &[u8]) -> bool
     i == w.len()
 }
 
-// Reads a word into a buffer, in the place of what it held.
-pub fn read_hex(out: &mut Vec<u8>, w: &[u8]) -> Result<(), Unread>
+fn fill_bytes(out: &mut Vec<u8>, w: &[u8]) -> Result<(), Unread>
     ensures value { λ r. ⌜ readAs r (vec-items (now (out .exit))) ≡ cond (leb (length (now (w .entry))) (2 * vec-cap (now (out .entry)))) (okOr (hexIn (now (w .entry))) Unread.Malformed) (Err Unread.NoRoom) ⌝ }
     ensures cap { λ _. ⌜ vec-cap (now (out .exit)) ≡ vec-cap (now (out .entry)) ⌝ }
 {
@@ -104,4 +105,13 @@ pub fn read_hex(out: &mut Vec<u8>, w: &[u8]) -> Result<(), Unread>
         return Err(Unread::Malformed);
     }
     Ok(())
+}
+
+// Reads a word into a buffer, in the place of what it held.
+pub fn read_hex(out: &mut Vec<u8>, w: &[u8]) -> Result<(), Unread>
+    ensures value { λ r. ⌜ readAs r (vec-items (now (out .exit))) ≡ cond (leb (length (now (w .entry))) (2 * vec-cap (now (out .entry)))) (okOr (hexIn (now (w .entry))) Unread.Malformed) (Err Unread.NoRoom) ⌝ }
+    ensures cap { λ _. ⌜ vec-cap (now (out .exit)) ≡ vec-cap (now (out .entry)) ⌝ }
+    ensures law { λ _. ⌜ WrittenBack hexIn hexText (now (w .entry)) ⌝ }
+{
+    fill_bytes(out, w)
 }

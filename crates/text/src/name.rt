@@ -9,6 +9,7 @@ ghost use Rattle.std.specs.Of.Vec.{vec-len, vec-items, vec-cap};
 ghost use Rattle.std.specs.Options.{okOr};
 ghost use Rattle.std.specs.Results.{isOk};
 ghost use Rattle.std.specs.declared.result.Result.the-variants.{Err};
+ghost use Rattle.text.specs.Laws.{WrittenBack, NameAgain};
 ghost use Rattle.text.specs.Names.{isPlain, numbered, escape, escaped, nameText, unseenStep, nameStep, nameFrom, nameIn, Sound, SoundStep};
 ghost use Rattle.text.specs.Readings.{ahead, kept, readAs};
 use crate::hex::hex_digit;
@@ -83,6 +84,7 @@ pub fn write_name(out: &mut Vec<u8>, name: &[u8]) -> Result<(), NoRoom>
     ensures items { λ r. ⌜ vec-items (now (out .exit)) ≡ cond (isOk r) (vec-items (now (out .entry)) ++ nameText (now (name .entry))) (vec-items (now (out .entry))) ⌝ }
     ensures len { λ _. ⌜ vec-len (now (out .exit)) ≤ vec-len (now (out .entry)) + (3 * length (now (name .entry)) + 1) ⌝ }
     ensures cap { λ _. ⌜ vec-cap (now (out .exit)) ≡ vec-cap (now (out .entry)) ⌝ }
+    ensures law { λ _. ⌜ NameAgain (now (name .entry)) ⌝ }
 {
     let room = out.capacity().saturating_sub(out.len());
     if room == 0 || (room - 1) / 3 < name.len() {
@@ -161,6 +163,7 @@ fn read_escaped(out: &mut Vec<u8>, w: &[u8]) -> bool
 pub fn read_name(out: &mut Vec<u8>, w: &[u8]) -> Result<(), Unread>
     ensures value { λ r. ⌜ readAs r (vec-items (now (out .exit))) ≡ cond (leb 255 (vec-cap (now (out .entry)))) (okOr (nameIn (now (w .entry))) Unread.Malformed) (Err Unread.NoRoom) ⌝ }
     ensures cap { λ _. ⌜ vec-cap (now (out .exit)) ≡ vec-cap (now (out .entry)) ⌝ }
+    ensures law { λ _. ⌜ WrittenBack nameIn nameText (now (w .entry)) ⌝ }
 {
     out.clear();
     if out.capacity() < LONGEST {

@@ -1,0 +1,4 @@
+pub mod Lawful
+pub mod House
+pub mod Desk
+pub mod Code

@@ -1,0 +1,11 @@
+pub mod Numbers
+pub mod CallKinds
+pub mod CallsOut
+pub mod NamesRead
+pub mod Forms
+pub mod AnswersOut
+pub mod CallsBack
+pub mod CallsForm
+pub mod RepliesBack
+pub mod RepliesForm
+pub mod FramesBack

@@ -1,0 +1,6 @@
+use borrow.Author.Needs.{needs}
+use Rattle.codec.proofs.Numbers.{number-2}
+use Rattle.codec.proofs.bytes.read_u16.Needs as need
+
+pub returns : need.returns
+returns c = search (needs, number-2)

@@ -1,0 +1,6 @@
+use Rattle.messages.proofs.Laid.{hello-laid}
+use Rattle.messages.proofs.put.put_hello.Needs as need
+
+pub returns : need.returns
+returns c =
+    hello-laid (c .args .part .now) (c .put-u64 .last .part) (c .put-front .last .part) _ (c .pre) (c .put-u64 .ensures .after) (c .put-front .ensures)

@@ -1,0 +1,12 @@
+// What house and desks say to each other, as bytes, with a sum by which noise is told from messages.
+mod bytes;
+mod message;
+mod put;
+mod reader;
+mod sum;
+mod writer;
+
+pub use message::Message;
+pub use reader::read_message;
+pub use writer::seal_request;
+pub use writer::write_message;

@@ -1,0 +1,3 @@
+// The lines that house and desks print.
+pub mod print;
+pub mod told;
