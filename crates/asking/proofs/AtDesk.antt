@@ -20,7 +20,7 @@ use Rattle.asking.proofs.View.{AbsHouse, AbsSlot, idle, waiting, absSlot, slot
 use Rattle.asking.proofs.Base.{at-same, at-other, put, put-same, put-other}
 use Rattle.asking.proofs.Arrays.{getD-at, slots-map, waits-inside, first-idle-0}
 use Rattle.asking.proofs.Facts.{DeskFacts, SlotFacts, next64-is}
-use Rattle.asking.proofs.Inv.{Ghost, seqOf, Real, Given, RequestOk, HelloOk, WelcomeOk, WordOk, Core, DeskOk, Mute, sends}
+use Rattle.asking.proofs.Inv.{Ghost, seqOf, Real, Given, RequestOk, HelloOk, WelcomeOk, WordOk, Core, DeskOk, NoNewAnswer, sends}
 use Rattle.asking.proofs.Asking as A
 use Rattle.asking.proofs.Telling as L
 use Rattle.asking.proofs.AtHouse.{is-true, pos-from, limit}
@@ -95,6 +95,17 @@ unfolding unsentNow
 a-unsent-now t (Idle q) = refl
 a-unsent-now t (Waiting q k c b f l) = refl
 
+-- the session that is adopted, and the slots then
+pub adopts-session : (s : ℕ) (b : Bool) (d : Desk) → eqb s (d .session) ≡ b → adoptsBy s b d .session ≡ s
+unfolding adoptsBy
+adopts-session s true d e = sym (eqb-true s (d .session) e)
+adopts-session s false d e = refl
+
+pub adopts-slots : (s : ℕ) (b : Bool) (d : Desk) (j : ℕ) → slotsOf (adoptsBy s b d .slots) j ≡ slotsOf (d .slots) j
+unfolding adoptsBy
+adopts-slots s true d j = refl
+adopts-slots s false d j = slots-map unsent a-unsent (d .slots) j
+
 -- MESSAGES AND TICKS
 
 module _ (mc : Machine) (g : Ghost) (h : AbsHouse mc) (drawn : List ℕ) (letters : List (Letter Msg)) (es : List Seen) (v : Core mc g h drawn letters es) (i now : ℕ) (d : Desk) (ok : DeskOk mc g h i d) where
@@ -138,7 +149,7 @@ module _ (mc : Machine) (g : Ghost) (h : AbsHouse mc) (drawn : List ℕ) (letter
 
   -- Requests for what waits
   asks-again : (t : Bool → ℕ → Bool) → 0 < d .session → Core mc g h drawn (posted i now (requests t (d .session) 0 (d .slots)) ++ letters) (tells i (requests t (d .session) 0 (d .slots)) ++ es)
-  asks-again t p = subst (λ z. Core mc g h drawn (posted i now (requests t s 0 (d .slots)) ++ letters) (z ++ es)) (sym (tells-requests i t s 0 (d .slots))) (sends mc g h drawn letters es (posted i now (requests t s 0 (d .slots))) v ok' mute)
+  asks-again t p = subst (λ z. Core mc g h drawn (posted i now (requests t s 0 (d .slots)) ++ letters) (z ++ es)) (sym (tells-requests i t s 0 (d .slots))) (sends mc g h drawn letters es (posted i now (requests t s 0 (d .slots))) v ok' no-new)
     where
       s : ℕ
       s = d .session
@@ -150,8 +161,8 @@ module _ (mc : Machine) (g : Ghost) (h : AbsHouse mc) (drawn : List ℕ) (letter
           let u = ok .session' p in
           subst (λ z. WordOk mc g h drawn (z .by) (z .word)) (sym (y .is')) (request-ok s (0 + y .p) (y .q) (y .k) (y .x) p (u .0) (u .1) (ap (slotsOf (d .slots)) (sym e) ∙ y .waits))
 
-      mute : Mute mc g (posted i now (requests t s 0 (d .slots)))
-      mute l m s' j' q' gr' r' e = let y = in-requests i now t s 0 (d .slots) l m in absurd (let a : Request s (0 + y .p) (y .q) (y .x) ≡ Response s' j' q' gr' r' = sym (ap (λ (z : Letter Msg). z .word) (y .is')) ∙ e in let z : _≡_ {A = ℕ} 0 1 = cc in omega arith)
+      no-new : NoNewAnswer mc g (posted i now (requests t s 0 (d .slots)))
+      no-new l m s' j' q' gr' r' e = let y = in-requests i now t s 0 (d .slots) l m in absurd (let a : Request s (0 + y .p) (y .q) (y .x) ≡ Response s' j' q' gr' r' = sym (ap (λ (z : Letter Msg). z .word) (y .is')) ∙ e in let z : _≡_ {A = ℕ} 0 1 = cc in omega arith)
 
   quiet : DeskStep mc g h drawn letters es i now (record { does = []; desk = d })
   unfolding posted tells
@@ -175,7 +186,7 @@ module _ (mc : Machine) (g : Ghost) (h : AbsHouse mc) (drawn : List ℕ) (letter
   says-one m d' w n ok' =
       record {
         g' = g;
-        core' = sends mc g h drawn letters es (l ∷ []) v (λ l' m'. elim (List·Memᴰ·cases-cons m') [ inl p ↦ subst (λ z. WordOk mc g h drawn (z .by) (z .word)) (sym p) w | inr e ↦ absurd (List·Memᴰ·not-nil e) ]) mute;
+        core' = sends mc g h drawn letters es (l ∷ []) v (λ l' m'. elim (List·Memᴰ·cases-cons m') [ inl p ↦ subst (λ z. WordOk mc g h drawn (z .by) (z .word)) (sym p) w | inr e ↦ absurd (List·Memᴰ·not-nil e) ]) no-new;
         me' = ok';
         others' = λ b d2 _ y. y;
         alive' = λ b. refl;
@@ -184,8 +195,8 @@ module _ (mc : Machine) (g : Ghost) (h : AbsHouse mc) (drawn : List ℕ) (letter
       l : Letter Msg
       l = record { to = 0; by = i; at' = now; word = m }
 
-      mute : Mute mc g (l ∷ [])
-      mute l' m' s j q gr r e' = elim (List·Memᴰ·cases-cons m') [ inl p ↦ absurd (n s j q gr r (sym (ap (λ (z : Letter Msg). z .word) p) ∙ e')) | inr e ↦ absurd (List·Memᴰ·not-nil e) ]
+      no-new : NoNewAnswer mc g (l ∷ [])
+      no-new l' m' s j q gr r e' = elim (List·Memᴰ·cases-cons m') [ inl p ↦ absurd (n s j q gr r (sym (ap (λ (z : Letter Msg). z .word) p) ∙ e')) | inr e ↦ absurd (List·Memᴰ·not-nil e) ]
 
   at-alive : (t : ℕ) (b : Bool) → DeskStep mc g h drawn letters es i now (aliveBy t b d)
   unfolding aliveBy

@@ -20,7 +20,7 @@ use Rattle.asking.proofs.View.{AbsPeer, AbsHouse, waiting, changing, absPeer, 
 use Rattle.asking.proofs.Base.{at-ind, at-other}
 use Rattle.asking.proofs.Arrays.{getD-at, replicate-same}
 use Rattle.asking.proofs.Facts.{HouseFacts, next64-is, f-takes, f-hearing}
-use Rattle.asking.proofs.Inv.{Ghost, RequestOk, HelloOk, ResponseOk, WordOk, Core, DeskOk, Mute, sends}
+use Rattle.asking.proofs.Inv.{Ghost, RequestOk, HelloOk, ResponseOk, WordOk, Core, DeskOk, NoNewAnswer, sends}
 use Rattle.asking.proofs.Readings as R
 use Rattle.asking.proofs.Changes as C
 use Rattle.asking.proofs.Promote as P
@@ -105,10 +105,10 @@ module _ (mc : Machine) (law : Lawful mc) (g : Ghost) (h : House mc) (drawn : Li
   -- one letter that is no answer to a query
   one : (x : Msg) → WordOk mc g H drawn 0 x → ((s j q gr : ℕ) (r : Bytes) → x ≡ Response s j q gr r → (c k : ℕ) (y : Bytes) → g .given s ≡ c → g .last c j ≡ waiting q k y → changing mc y ≡ false → ⊥) → HouseStep mc g H drawn letters es now (record { does = To i x ∷ []; house = h })
   unfolding posted tells
-  one x ok mute =
+  one x ok no-new =
       record {
         g' = g;
-        core' = sends mc g H drawn letters es (l ∷ []) v (λ l' m'. elim (List·Memᴰ·cases-cons m') [ inl e ↦ subst (λ z. WordOk mc g H drawn (z .by) (z .word)) (sym e) ok | inr n' ↦ absurd (List·Memᴰ·not-nil n') ]) mute';
+        core' = sends mc g H drawn letters es (l ∷ []) v (λ l' m'. elim (List·Memᴰ·cases-cons m') [ inl e ↦ subst (λ z. WordOk mc g H drawn (z .by) (z .word)) (sym e) ok | inr n' ↦ absurd (List·Memᴰ·not-nil n') ]) no-new';
         desks' = λ i' d y. y;
         alive' = λ i'. refl;
       }
@@ -116,8 +116,8 @@ module _ (mc : Machine) (law : Lawful mc) (g : Ghost) (h : House mc) (drawn : Li
       l : Letter Msg
       l = record { to = i; by = 0; at' = now; word = x }
 
-      mute' : Mute mc g (l ∷ [])
-      mute' l' m' s j q gr r e = elim (List·Memᴰ·cases-cons m') [ inl e' ↦ mute s j q gr r (sym (ap (λ (z : Letter Msg). z .word) e') ∙ e) | inr n' ↦ absurd (List·Memᴰ·not-nil n') ]
+      no-new' : NoNewAnswer mc g (l ∷ [])
+      no-new' l' m' s j q gr r e = elim (List·Memᴰ·cases-cons m') [ inl e' ↦ no-new s j q gr r (sym (ap (λ (z : Letter Msg). z .word) e') ∙ e) | inr n' ↦ absurd (List·Memᴰ·not-nil n') ]
 
   at-hello : (c : ℕ) → HelloOk (g .desk) drawn i c → (a b : Bool) → (not (eqb (peerOf h i .session) 0) && eqb (peerOf h i .nonce) c) ≡ a → (not (eqb (peerOf h i .offeredSession) 0) && eqb (peerOf h i .offeredNonce) c) ≡ b → HouseStep mc g H drawn letters es now (helloBy i c a b h)
   unfolding helloBy posted tells
@@ -152,7 +152,7 @@ module _ (mc : Machine) (law : Lawful mc) (g : Ghost) (h : House mc) (drawn : Li
     at-change : changing mc x ≡ true → (b d : Bool) → ltb (H .peers i .slots j .seq) q ≡ b → eqb (H .peers i .slots j .seq) q ≡ d → HouseStep mc g H drawn letters es now (changeBy i s j q x b d h)
     unfolding changeBy
     at-change ea true d eb ed = at-new ea eb
-    at-change ea false true eb ed = one (Response s j q 0 (H .peers i .slots j .answer)) here mute
+    at-change ea false true eb ed = one (Response s j q 0 (H .peers i .slots j .answer)) here no-new
       where
         seqIs : H .peers i .slots j .seq ≡ q
         seqIs = eqb-true (H .peers i .slots j .seq) q ed
@@ -160,8 +160,8 @@ module _ (mc : Machine) (law : Lawful mc) (g : Ghost) (h : House mc) (drawn : Li
         here : ResponseOk mc g H drawn s j q (H .peers i .slots j .answer)
         here = record { c = ok .c; i = i; pos = ok .pos; below = ok .below; is' = ok .is'; real = ok .real; whose = ok .whose; upto = ok .upto; stands = inr (record { on = on; is' = isS; recorded' = λ k y w ch. (seqIs, refl) }) }
 
-        mute : (s' j' q' gr : ℕ) (r : Bytes) → Response s j q 0 (H .peers i .slots j .answer) ≡ Response s' j' q' gr r → (c k : ℕ) (x' : Bytes) → g .given s' ≡ c → g .last c j' ≡ waiting q' k x' → changing mc x' ≡ false → ⊥
-        mute s' j' q' gr r e c k x' gi w re =
+        no-new : (s' j' q' gr : ℕ) (r : Bytes) → Response s j q 0 (H .peers i .slots j .answer) ≡ Response s' j' q' gr r → (c k : ℕ) (x' : Bytes) → g .given s' ≡ c → g .last c j' ≡ waiting q' k x' → changing mc x' ≡ false → ⊥
+        no-new s' j' q' gr r e c k x' gi w re =
             let e0 : s ≡ s' = cc in
             let e1 : j' ≡ j = cc in
             let e2 : q' ≡ q = cc in

@@ -1,4 +1,4 @@
--- Functions changed at a place, and membership.
+-- Functions changed at a place, numbers that were drawn, and members of lists.
 use mathlib.Core.Path.{_≡_, refl, sym, ap, subst}
 use mathlib.Core.Logic.{_⊎_, inl, inr, ⊎-elim}
 use mathlib.Core.Bool.{Bool, true, false, cond, _&&_, _||_, not}

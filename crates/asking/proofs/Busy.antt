@@ -24,7 +24,7 @@ use Rattle.asking.proofs.AtHouse.{limit}
 use Rattle.asking.proofs.OneTable.{InvOf, inv, is-house, is-desk}
 use Rattle.asking.proofs.Shortened.{short}
 use Rattle.asking.proofs.Counting.{W, count-most}
-use Rattle.asking.proofs.Waiting.{WaitsOk, Once, still-not, still-requests, still-first, waits-of, once-of, all-wait}
+use Rattle.asking.proofs.Waiting.{WaitsOk, Once, sends-not-told, sends-requests, sends-first, waits-of, once-of, all-wait}
 
 pub busy-is : isBusy busy ≡ true
 unfolding busy encodeReply be
@@ -32,47 +32,47 @@ busy-is = refl
 
 -- THE HOUSE TELLS NOTHING
 
-abbrev pub Mute : List (Does Msg) → Type 0
-Mute [] = Unit {0}
-Mute (To j m ∷ ds) = Mute ds
-Mute (Tell k r ∷ ds) = ⊥
-Mute (Lapse j ∷ ds) = Mute ds
+abbrev pub TellsNothing : List (Does Msg) → Type 0
+TellsNothing [] = Unit {0}
+TellsNothing (To j m ∷ ds) = TellsNothing ds
+TellsNothing (Tell k r ∷ ds) = ⊥
+TellsNothing (Lapse j ∷ ds) = TellsNothing ds
 
-pub mute-not : (ds : List (Does Msg)) (k : ℕ) (r : Bytes) → Mute ds → List·Memᴰ (Tell k r) ds → ⊥
-mute-not [] k r h m = List·Memᴰ·not-nil m
-mute-not (To j x ∷ ds) k r h m = elim (List·Memᴰ·cases-cons m) [ inl e ↦ (let z : _≡_ {A = ℕ} 0 1 = cc in omega arith) | inr m' ↦ mute-not ds k r h m' ]
-mute-not (Tell k' r' ∷ ds) k r h m = absurd h
-mute-not (Lapse j ∷ ds) k r h m = elim (List·Memᴰ·cases-cons m) [ inl e ↦ (let z : _≡_ {A = ℕ} 0 1 = cc in omega arith) | inr m' ↦ mute-not ds k r h m' ]
+pub not-told : (ds : List (Does Msg)) (k : ℕ) (r : Bytes) → TellsNothing ds → List·Memᴰ (Tell k r) ds → ⊥
+not-told [] k r h m = List·Memᴰ·not-nil m
+not-told (To j x ∷ ds) k r h m = elim (List·Memᴰ·cases-cons m) [ inl e ↦ (let z : _≡_ {A = ℕ} 0 1 = cc in omega arith) | inr m' ↦ not-told ds k r h m' ]
+not-told (Tell k' r' ∷ ds) k r h m = absurd h
+not-told (Lapse j ∷ ds) k r h m = elim (List·Memᴰ·cases-cons m) [ inl e ↦ (let z : _≡_ {A = ℕ} 0 1 = cc in omega arith) | inr m' ↦ not-told ds k r h m' ]
 
 module _ {mc : Machine} where
-  m-hello : (i c : ℕ) (a b : Bool) (h : House mc) → Mute (helloBy i c a b h .does)
+  m-hello : (i c : ℕ) (a b : Bool) (h : House mc) → TellsNothing (helloBy i c a b h .does)
   unfolding helloBy
   m-hello i c true b h = tt
   m-hello i c false true h = tt
   m-hello i c false false h = tt
 
-  m-change : (i s j q : ℕ) (c : Bytes) (a b : Bool) (h : House mc) → Mute (changeBy i s j q c a b h .does)
+  m-change : (i s j q : ℕ) (c : Bytes) (a b : Bool) (h : House mc) → TellsNothing (changeBy i s j q c a b h .does)
   unfolding changeBy newChangeBy
   m-change i s j q c true b h = tt
   m-change i s j q c false true h = tt
   m-change i s j q c false false h = tt
 
-  m-serve : (i s j q : ℕ) (c : Bytes) (b : Bool) (h : House mc) → Mute (serveBy i s j q c b h .does)
+  m-serve : (i s j q : ℕ) (c : Bytes) (b : Bool) (h : House mc) → TellsNothing (serveBy i s j q c b h .does)
   unfolding serveBy
   m-serve i s j q c true h = tt
   m-serve i s j q c false h = m-change i s j q c _ _ h
 
-  m-current : (i s j q : ℕ) (c : Bytes) (b : Bool) (h : House mc) → Mute (currentBy i s j q c b h .does)
+  m-current : (i s j q : ℕ) (c : Bytes) (b : Bool) (h : House mc) → TellsNothing (currentBy i s j q c b h .does)
   unfolding currentBy
   m-current i s j q c true h = m-serve i s j q c (mc .reads c) h
   m-current i s j q c false h = tt
 
-  m-request : (i s j q : ℕ) (c : Bytes) (b : Bool) (h : House mc) → Mute (requestBy i s j q c b h .does)
+  m-request : (i s j q : ℕ) (c : Bytes) (b : Bool) (h : House mc) → TellsNothing (requestBy i s j q c b h .does)
   unfolding requestBy
   m-request i s j q c true h = m-current i s j q c _ (takesUp i s h)
   m-request i s j q c false h = tt
 
-  m-hears : (i : ℕ) (x : Msg) (h : House mc) → Mute (houseHears i x h .does)
+  m-hears : (i : ℕ) (x : Msg) (h : House mc) → TellsNothing (houseHears i x h .does)
   unfolding houseHears
   m-hears i (Hello c) h = m-hello i c _ _ h
   m-hears i (Welcome c s) h = tt
@@ -80,26 +80,26 @@ module _ {mc : Machine} where
   m-hears i (Response s j q gr a) h = tt
   m-hears i (Alive s) h = tt
 
-  m-from : (i t : ℕ) (x : Msg) (b : Bool) (h : House mc) → Mute (houseFromBy i x t b h .does)
+  m-from : (i t : ℕ) (x : Msg) (b : Bool) (h : House mc) → TellsNothing (houseFromBy i x t b h .does)
   unfolding houseFromBy
   m-from i t x true h = m-hears i x (hearing i t h)
   m-from i t x false h = tt
 
-  m-lapse : (i : ℕ) (b : Bool) (x : HouseTurn mc) → Mute (x .does) → Mute (lapseBy i b x .does)
+  m-lapse : (i : ℕ) (b : Bool) (x : HouseTurn mc) → TellsNothing (x .does) → TellsNothing (lapseBy i b x .does)
   unfolding lapseBy
   m-lapse i true x h = h
   m-lapse i false x h = h
 
-  m-lapses : (t i k : ℕ) (h : House mc) → Mute (lapsesFrom t i k h .does)
+  m-lapses : (t i k : ℕ) (h : House mc) → TellsNothing (lapsesFrom t i k h .does)
   unfolding lapsesFrom
   m-lapses t i zero h = tt
   m-lapses t i (suc k) h = m-lapse i _ (lapsesFrom t (i + 1) k h) (m-lapses t (i + 1) k h)
 
-  pub mute-house : (x : Comes Msg) (t : ℕ) (h : House mc) → Mute (houseTurn x t h .does)
+  pub house-tells-nothing : (x : Comes Msg) (t : ℕ) (h : House mc) → TellsNothing (houseTurn x t h .does)
   unfolding houseTurn
-  mute-house (From i m) t h = m-from i t m _ h
-  mute-house (Ask k c) t h = tt
-  mute-house Beat t h = m-lapses t 1 63 h
+  house-tells-nothing (From i m) t h = m-from i t m _ h
+  house-tells-nothing (Ask k c) t h = tt
+  house-tells-nothing Beat t h = m-lapses t 1 63 h
 
 -- A DESK
 
@@ -125,17 +125,17 @@ eight i d ws ok once l8 e = count-most i (λ j. numberOf (slotsOf (d .slots) j))
         once j (z .0) (z .1) (z .2) j' (z' .0) (z' .2) (z .3) (z' .3 ∙ ap (λ s. waiting (z' .0) s (z' .2)) (sym ek))
 
 -- what can come: nobody says that eight wait
-abbrev pub Decent : Msg → Type 0
-Decent (Hello c) = Unit {0}
-Decent (Welcome c s) = Unit {0}
-Decent (Request s j q c) = Unit {0}
-Decent (Response s j q gr a) = isBusy a ≡ false
-Decent (Alive s) = Unit {0}
+abbrev pub NotBusy : Msg → Type 0
+NotBusy (Hello c) = Unit {0}
+NotBusy (Welcome c s) = Unit {0}
+NotBusy (Request s j q c) = Unit {0}
+NotBusy (Response s j q gr a) = isBusy a ≡ false
+NotBusy (Alive s) = Unit {0}
 
-abbrev pub DecentComes : Comes Msg → Type 0
-DecentComes (From i m) = Decent m
-DecentComes (Ask k c) = Unit {0}
-DecentComes Beat = Unit {0}
+abbrev pub NotBusyComes : Comes Msg → Type 0
+NotBusyComes (From i m) = NotBusy m
+NotBusyComes (Ask k c) = Unit {0}
+NotBusyComes Beat = Unit {0}
 
 module _ (i : ℕ) (d : Desk) (ws : List Waits) (ok : WaitsOk i (slotsOf (d .slots)) ws) (once : Once (slotsOf (d .slots))) (l8 : length (d .slots) ≡ 8) (k : ℕ) where
   abbrev Said : Comes Msg → DeskTurn → Type 0
@@ -158,10 +158,10 @@ module _ (i : ℕ) (d : Desk) (ws : List Waits) (ok : WaitsOk i (slotsOf (d .slo
 
   b-welcome : (x : Comes Msg) (t s : ℕ) (b : Bool) → Said x (welcomeBy t s b d)
   unfolding welcomeBy
-  b-welcome x t s true m = let d1 : Desk = adoptsBy s (eqb s (d .session)) d in absurd (still-not (requests notSent (d1 .session) 0 (d1 .slots)) k busy (still-requests notSent (d1 .session) 0 (d1 .slots)) m)
+  b-welcome x t s true m = let d1 : Desk = adoptsBy s (eqb s (d .session)) d in absurd (sends-not-told (requests notSent (d1 .session) 0 (d1 .slots)) k busy (sends-requests notSent (d1 .session) 0 (d1 .slots)) m)
   b-welcome x t s false m = absurd (List·Memᴰ·not-nil m)
 
-  b-hears : (t by : ℕ) (m : Msg) → Decent m → Said (From by m) (deskHears t m d)
+  b-hears : (t by : ℕ) (m : Msg) → NotBusy m → Said (From by m) (deskHears t m d)
   unfolding deskHears
   b-hears t by (Hello c) o m = absurd (List·Memᴰ·not-nil m)
   b-hears t by (Welcome c s) o m = b-welcome (From by (Welcome c s)) t s _ m
@@ -169,34 +169,34 @@ module _ (i : ℕ) (d : Desk) (ws : List Waits) (ok : WaitsOk i (slotsOf (d .slo
   b-hears t by (Response s j q gr r) o m = b-response (From by (Response s j q gr r)) j q r o _ m
   b-hears t by (Alive s) o m = absurd (List·Memᴰ·not-nil m)
 
-  b-from : (t by : ℕ) (m : Msg) → Decent m → (b : Bool) → Said (From by m) (deskFromBy t m b d)
+  b-from : (t by : ℕ) (m : Msg) → NotBusy m → (b : Bool) → Said (From by m) (deskFromBy t m b d)
   unfolding deskFromBy
   b-from t by m o true n = b-hears t by m o n
   b-from t by m o false n = absurd (List·Memᴰ·not-nil n)
 
   b-alive : (t : ℕ) (b : Bool) → Said Beat (aliveBy t b d)
   unfolding aliveBy
-  b-alive t true m = absurd (still-not (To 0 (Alive (d .session)) ∷ []) k busy tt m)
+  b-alive t true m = absurd (sends-not-told (To 0 (Alive (d .session)) ∷ []) k busy tt m)
   b-alive t false m = absurd (List·Memᴰ·not-nil m)
 
   b-tick : (r t : ℕ) (a b : Bool) → Said Beat (tickBy r t a b d)
   unfolding tickBy
   b-tick r t false b m = b-alive t _ m
-  b-tick r t true true m = absurd (still-not (requests (isDue r t) (d .session) 0 (d .slots)) k busy (still-requests (isDue r t) (d .session) 0 (d .slots)) m)
-  b-tick r t true false m = absurd (still-not (To 0 (Hello (d .nonce)) ∷ []) k busy tt m)
+  b-tick r t true true m = absurd (sends-not-told (requests (isDue r t) (d .session) 0 (d .slots)) k busy (sends-requests (isDue r t) (d .session) 0 (d .slots)) m)
+  b-tick r t true false m = absurd (sends-not-told (To 0 (Hello (d .nonce)) ∷ []) k busy tt m)
 
   b-free : (grabs : Bytes → Bool) (t k' : ℕ) (c : Bytes) (y : Free) → firstIdle 0 (d .slots) ≡ y → Said (Ask k' c) (callBy grabs t k' c y d)
   unfolding callBy
   b-free grabs t k' c full e m = elim (List·Memᴰ·cases-cons m) [ inl q ↦ (let ek : k' ≡ k = cc in (c, ap (λ z. Ask z c) ek, eight i d ws ok once l8 e)) | inr m' ↦ absurd (List·Memᴰ·not-nil m') ]
-  b-free grabs t k' c (free j q) e m = absurd (still-not (firstSaid d j (next64 q) (shortened c) (eqb (d .session) 0) (noneWaits (d .slots))) k busy (still-first d j (next64 q) (shortened c) (eqb (d .session) 0) (noneWaits (d .slots))) m)
+  b-free grabs t k' c (free j q) e m = absurd (sends-not-told (firstSaid d j (next64 q) (shortened c) (eqb (d .session) 0) (noneWaits (d .slots))) k busy (sends-first d j (next64 q) (shortened c) (eqb (d .session) 0) (noneWaits (d .slots))) m)
 
-  b-desk : (z : Settings) (t : ℕ) (x : Comes Msg) → DecentComes x → Said x (deskTurn z x t d)
+  b-desk : (z : Settings) (t : ℕ) (x : Comes Msg) → NotBusyComes x → Said x (deskTurn z x t d)
   unfolding deskTurn
   b-desk z t (From by x) o m = b-from t by x o _ m
   b-desk z t (Ask k' c) o m = b-free (z .grabs) t k' c (firstIdle 0 (d .slots)) refl m
   b-desk z t Beat o m = b-tick (z .retry) t _ _ m
 
-pub busy-at-nine : (mc : Machine) → Lawful mc → (z : Settings) (clock : ℕ → ℕ → ℕ) → Clocks clock → (all n : ℕ) → n < limit → (es : List Seen) (w : World (Mind mc) Msg) → Goes (asking mc z) clock all n es w → (i k : ℕ) (m : Mind mc) (x : Comes Msg) → DecentComes x → w .who i ≡ there m → List·Memᴰ (Tell k busy) (mindTurn z x (clock i (w .now)) m .does) → (c : Bytes) × (x ≡ Ask k c) × (8 ≤ countAt i (w .waits))
+pub busy-at-nine : (mc : Machine) → Lawful mc → (z : Settings) (clock : ℕ → ℕ → ℕ) → Clocks clock → (all n : ℕ) → n < limit → (es : List Seen) (w : World (Mind mc) Msg) → Goes (asking mc z) clock all n es w → (i k : ℕ) (m : Mind mc) (x : Comes Msg) → NotBusyComes x → w .who i ≡ there m → List·Memᴰ (Tell k busy) (mindTurn z x (clock i (w .now)) m .does) → (c : Bytes) × (x ≡ Ask k c) × (8 ≤ countAt i (w .waits))
 unfolding mindTurn
 busy-at-nine mc law z clock clocks all n lt es w g i k m x o e t = go (cases-lt 0 i)
   where
@@ -211,4 +211,4 @@ busy-at-nine mc law z clock clocks all n lt es w g i k m x o e t = go (cases-lt 
     go (inr p) =
         let i0 : i ≡ 0 = omega arith in
         let y = is-house (v .h) m (w .who 0) (ap (w .who) (sym i0) ∙ e) (v .houseIs) in
-        absurd (mute-not (houseTurn x (clock i (w .now)) (v .h) .does) k busy (mute-house x (clock i (w .now)) (v .h)) (subst (λ u. List·Memᴰ (Tell k busy) (mindTurn z x (clock i (w .now)) u .does)) y t))
+        absurd (not-told (houseTurn x (clock i (w .now)) (v .h) .does) k busy (house-tells-nothing x (clock i (w .now)) (v .h)) (subst (λ u. List·Memᴰ (Tell k busy) (mindTurn z x (clock i (w .now)) u .does)) y t))

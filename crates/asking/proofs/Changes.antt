@@ -14,7 +14,7 @@ use Rattle.codec.specs.Messages.{Msg, Hello, Welcome, Request, Response, Alive}
 use Rattle.asking.specs.House.{Done}
 use Rattle.asking.proofs.View.{AbsPeer, AbsHouse, waiting, changing, FreeOf, replyTo, leftBy, absRecords, absRecorded}
 use Rattle.asking.proofs.Base.{Place, place, other-stays, at-ind, at-same, at-other}
-use Rattle.asking.proofs.Inv.{Ghost, seqOf, Real, Given, PeersOk, Seqs, Emptied, IsPast, Settled, RequestOk, Answer, ResponseOk, WordOk, Pick, openOf, readyOf, Change, Held, Core, Mute, fits-old}
+use Rattle.asking.proofs.Inv.{Ghost, seqOf, Real, Given, PeersOk, Seqs, Emptied, IsPast, Settled, RequestOk, Answer, ResponseOk, WordOk, Pick, openOf, readyOf, Change, Held, Core, NoNewAnswer, fits-old}
 use Rattle.asking.proofs.Readings.{distinct-open}
 
 -- what a peer still says of a slot of a nonce
@@ -133,8 +133,8 @@ module _ (mc : Machine) (law : Lawful mc) (g : Ghost) (h : AbsHouse mc) (drawn :
   word-ok by (Alive s') a = tt
   word-ok by (Response s' j' q' gr' r') a = response-ok s' j' q' r' a
 
-  mute : Mute mc g (answer ∷ [])
-  mute l m s' j' q' gr' r' e c k x' gi w re = go (List·Memᴰ·cases-cons m)
+  no-new : NoNewAnswer mc g (answer ∷ [])
+  no-new l m s' j' q' gr' r' e c k x' gi w re = go (List·Memᴰ·cases-cons m)
     where
       go : (l ≡ answer) ⊎ List·Memᴰ l [] → ⊥
       go (inr m') = List·Memᴰ·not-nil m'
@@ -220,5 +220,5 @@ module _ (mc : Machine) (law : Lawful mc) (g : Ghost) (h : AbsHouse mc) (drawn :
         numbers = v .numbers;
         free = at-ind (λ b p. p .session ≡ 0 → FreeOf mc b (leftBy mc i x (h .table))) i peer' (h .peers) (λ e. absurd (let a = on in omega arith)) (λ b n e. free-stays b n (v .free b e));
         lettersOk = λ l m. elim (List·Memᴰ·cases-cons m) [ inl e ↦ subst (λ z. WordOk mc g h' drawn (z .by) (z .word)) (sym e) new-ok | inr b ↦ word-ok (l .by) (l .word) (v .lettersOk l b) ];
-        table = λ σ f. table' σ (v .table σ (fits-old mc g (answer ∷ []) letters σ mute f));
+        table = λ σ f. table' σ (v .table σ (fits-old mc g (answer ∷ []) letters σ no-new f));
       }

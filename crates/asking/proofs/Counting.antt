@@ -13,7 +13,7 @@ use Rattle.codec.specs.Messages.{Msg}
 abbrev pub W : (desk number : ℕ) → Waits
 W i k = record { desk = i; number = k }
 
--- WITHOUT
+-- ONE TAKEN AWAY
 pub in-without : (i k : ℕ) (ws : List Waits) (a : Waits) → List·Memᴰ a (without i k ws) → List·Memᴰ a ws × (a .desk ≡ i → a .number ≡ k → ⊥)
 unfolding without
 in-without i k [] a m = absurd (List·Memᴰ·not-nil m)

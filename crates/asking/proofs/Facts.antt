@@ -31,7 +31,7 @@ next64-is n l = min-eq-left (omega arith)
 
 pub record PeerFacts (p : Peer) : Type 0 where
   pub eightSlots : length (p .slots) ≡ 8
-  pub calm : (j : ℕ) → isBusy (slotOf p j .answer) ≡ false
+  pub notBusy : (j : ℕ) → isBusy (slotOf p j .answer) ≡ false
 
 pub record HouseFacts {mc : Machine} (n t : ℕ) (h : House mc) : Type 0 where
   pub peers64 : length (h .peers) ≡ 64
@@ -42,7 +42,7 @@ pub record HouseFacts {mc : Machine} (n t : ℕ) (h : House mc) : Type 0 where
   pub heard' : (i : ℕ) → getD (h .heard) i 0 ≤ t
 
 unused-facts : (p : Peer) → p .slots ≡ replicate 8 unused → PeerFacts p
-unused-facts p e = record { eightSlots = ap length e ∙ length-replicate 8 unused; calm = λ j. subst (λ xs. isBusy (getD xs j unused .answer) ≡ false) (sym e) (replicate-ind (λ d. isBusy (d .answer) ≡ false) 8 unused unused refl refl j) }
+unused-facts p e = record { eightSlots = ap length e ∙ length-replicate 8 unused; notBusy = λ j. subst (λ xs. isBusy (getD xs j unused .answer) ≡ false) (sym e) (replicate-ind (λ d. isBusy (d .answer) ≡ false) 8 unused unused refl refl j) }
 
 more-steps : {mc : Machine} (n t t' : ℕ) (h : House mc) → t ≤ t' → HouseFacts n t h → HouseFacts (suc n) t' h
 more-steps n t t' h l v = record { peers64 = v .peers64; heard64 = v .heard64; peer = v .peer; noSelf = v .noSelf; next' = (let a = v .next' in omega arith); heard' = λ i. let a = v .heard' i in omega arith }
@@ -67,7 +67,7 @@ module _ {mc : Machine} (law : Lawful mc) (n t : ℕ) where
   unfolding helloBy
   f-hello i c true b h p v = more-steps n t t h (omega arith) v
   f-hello i c false true h p v = more-steps n t t h (omega arith) v
-  f-hello i c false false h p v = other-peer h (h .table) (next64 (h .nextSession)) i _ (suc n) p (record { eightSlots = v .peer i .eightSlots; calm = v .peer i .calm }) (let a = next64-most (h .nextSession) in let b = v .next' in omega arith) v
+  f-hello i c false false h p v = other-peer h (h .table) (next64 (h .nextSession)) i _ (suc n) p (record { eightSlots = v .peer i .eightSlots; notBusy = v .peer i .notBusy }) (let a = next64-most (h .nextSession) in let b = v .next' in omega arith) v
 
   f-new : (i s j q : ℕ) (c : Bytes) (b : Bool) (h : House mc) → 0 < i → HouseFacts n t h → HouseFacts n t (newChangeBy i s j q c b h .house)
   unfolding newChangeBy
@@ -76,7 +76,7 @@ module _ {mc : Machine} (law : Lawful mc) (n t : ℕ) where
       other-peer h (mc .does i c (h .table) .state) (h .nextSession) i _ n p
       (record {
         eightSlots = length-set (peerOf h i .slots) j (record { seq = q; answer = mc .does i c (h .table) .answer }) ∙ v .peer i .eightSlots;
-        calm = set-ind (λ _ d. isBusy (d .answer) ≡ false) (peerOf h i .slots) j (record { seq = q; answer = mc .does i c (h .table) .answer }) unused (law .neverBusy i c (h .table)) (v .peer i .calm);
+        notBusy = set-ind (λ _ d. isBusy (d .answer) ≡ false) (peerOf h i .slots) j (record { seq = q; answer = mc .does i c (h .table) .answer }) unused (law .neverBusy i c (h .table)) (v .peer i .notBusy);
       }) (v .next') v
 
   f-change : (i s j q : ℕ) (c : Bytes) (a b : Bool) (h : House mc) → 0 < i → HouseFacts n t h → HouseFacts n t (changeBy i s j q c a b h .house)

@@ -1,4 +1,4 @@
--- A desk falls; a desk comes; the first moment.
+-- A desk falls; a desk comes with a new nonce; the first moment.
 use mathlib.Core.Path.{_≡_, refl, sym, ap, subst, _∙_}
 use mathlib.Core.Logic.{_⊎_, inl, inr}
 use mathlib.Core.Bool.{true, not}

@@ -1,4 +1,4 @@
--- The house takes up a new life of a desk: the hands of the last one fall.
+-- The house takes up a new incarnation of a desk: the hands of the last one are emptied.
 use mathlib.Core.Path.{_≡_, refl, sym, ap, subst, _∙_}
 use mathlib.Core.Logic.{_⊎_, inl, inr}
 use mathlib.Core.List.{List}

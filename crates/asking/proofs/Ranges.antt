@@ -32,7 +32,7 @@ next64-fits n = let a = min-le-right (n + 1) 18446744073709551615 in omega arith
 pub record AnswerOk (a : Bytes) : Type 0 where
   pub short : length a < 2147483648
   pub bytes : T (allBytes a)
-  pub calm : T (not (isBusy a))
+  pub notBusy : T (not (isBusy a))
 
 abbrev pub SaidOk : List (Does Msg) → Type 0
 SaidOk [] = Unit {0}
@@ -65,7 +65,7 @@ pub record HouseOut {mc : Machine} (law : Lawful mc) (t : HouseTurn mc) : Type 0
 
 no-answer : AnswerOk []
 unfolding every
-no-answer = record { short = omega arith; bytes = tt; calm = tt }
+no-answer = record { short = omega arith; bytes = tt; notBusy = tt }
 
 unused-ok : (j : ℕ) → AnswerOk (getD (replicate 8 unused) j unused .answer)
 unused-ok j = replicate-ind (λ d. AnswerOk (d .answer)) 8 unused unused no-answer no-answer j
@@ -75,10 +75,10 @@ not-busy a e = subst (λ b. T (not b)) (sym e) tt
 
 module _ {mc : Machine} (law : Lawful mc) where
   answer-ok : (i : ℕ) (c : Bytes) (s : mc .State) → law .ok s → AnswerOk (mc .does i c s .answer)
-  answer-ok i c s o = record { short = law .answersFit i c s o; bytes = law .answersBytes i c s o; calm = not-busy (mc .does i c s .answer) (law .neverBusy i c s) }
+  answer-ok i c s o = record { short = law .answersFit i c s o; bytes = law .answersBytes i c s o; notBusy = not-busy (mc .does i c s .answer) (law .neverBusy i c s) }
 
   response-ok : (s j q : ℕ) (a : Bytes) → word64 s → j < 8 → word64 q → AnswerOk a → Sayable (Response s j q 0 a)
-  response-ok s j q a ls lj lq o = (ls, omega arith, lq, omega arith, o .short, o .bytes, o .calm)
+  response-ok s j q a ls lj lq o = (ls, omega arith, lq, omega arith, o .short, o .bytes, o .notBusy)
 
   other-peer : (h : House mc) (s : mc .State) (next i : ℕ) (p : Peer) → law .ok s → word64 next → PeerOk p → HouseOk law h → HouseOk law (record { table = s; nextSession = next; peers = set (h .peers) i p; heard = h .heard })
   other-peer h s next i p o l y v = record { table' = o; next' = l; peer = set-ind (λ _ q. PeerOk q) (h .peers) i p nobody y (v .peer) }

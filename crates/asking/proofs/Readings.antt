@@ -1,4 +1,4 @@
--- The house answers a reading.
+-- The house answers a query: the invariant holds with the new answer among those that can be chosen.
 use mathlib.Core.Path.{_≡_, refl, sym, ap, subst, _∙_}
 use mathlib.Core.Logic.{_⊎_, inl, inr}
 use mathlib.Core.Bool.{false}
@@ -59,7 +59,7 @@ module _ (mc : Machine) (law : Lawful mc) (g : Ghost) (h : AbsHouse mc) (drawn :
           let e' : σ (ok .c) j ≡ picked r = (λ k. σ (sym b k) (sym a1 k)) ∙ e in
           subst (λ z. Evid mc (g .given) (g .last) letters z j' r) (sym b) (subst (λ z. Evid mc (g .given) (g .last) letters (ok .c) z r) (sym a1) (here r e'))
 
-  -- the new answer is picked: the reading is done now
+  -- the new answer is picked: the query is done now
   now-done : (σ : ℕ → ℕ → Pick) (k : ℕ) → σ (ok .c) j ≡ picked (replyTo mc i x (h .table)) → g .last (ok .c) j ≡ waiting q k x → Held mc g h drawn es (put (ok .c) j unpicked σ) → Held mc g h drawn es σ
   now-done σ k eσ w u =
       record {
@@ -123,7 +123,7 @@ module _ (mc : Machine) (law : Lawful mc) (g : Ghost) (h : AbsHouse mc) (drawn :
       go unpicked e = v .table σ (older σ f (λ r e'. let z : _≡_ {A = ℕ} 0 1 = cc in absurd (omega arith)))
       go (picked r) e = again r e (f (ok .c) j r e) (List·Memᴰ·cases-cons (f (ok .c) j r e .mem))
 
-  -- of a reading that is over nothing is asked
+  -- of a query that is over nothing is asked
   pub read-again : Core mc g h drawn (answer ∷ letters) es
   read-again =
       record {

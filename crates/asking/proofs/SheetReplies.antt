@@ -109,23 +109,23 @@ reply-length (Found ns) o =
 
 -- NONE SAYS THAT EIGHT WAIT
 
-abbrev pub Calm : Reply → Type 0
-Calm (No k) = eqb (k % 256) 11 ≡ false
-Calm Yes = Unit {0}
-Calm (Edition e) = Unit {0}
-Calm (Got e w bs) = Unit {0}
-Calm (Found ns) = Unit {0}
+abbrev pub NotBusy : Reply → Type 0
+NotBusy (No k) = eqb (k % 256) 11 ≡ false
+NotBusy Yes = Unit {0}
+NotBusy (Edition e) = Unit {0}
+NotBusy (Got e w bs) = Unit {0}
+NotBusy (Found ns) = Unit {0}
 
-pub calm-bytes : (r : Reply) → Calm r → isBusy (encodeReply r) ≡ false
+pub not-busy-bytes : (r : Reply) → NotBusy r → isBusy (encodeReply r) ≡ false
 unfolding encodeReply be
-calm-bytes (No k) o = o
-calm-bytes Yes o = refl
-calm-bytes (Edition e) o = and-right (eqb (length (2 ∷ be 8 e)) 2) false refl
-calm-bytes (Got e w bs) o = and-right (eqb (length (3 ∷ (be 8 e ++ (be 4 w ++ (be 4 (length bs) ++ bs))))) 2) false refl
-calm-bytes (Found ns) o = and-right (eqb (length (4 ∷ (be 2 (length ns) ++ namesOut ns))) 2) false refl
+not-busy-bytes (No k) o = o
+not-busy-bytes Yes o = refl
+not-busy-bytes (Edition e) o = and-right (eqb (length (2 ∷ be 8 e)) 2) false refl
+not-busy-bytes (Got e w bs) o = and-right (eqb (length (3 ∷ (be 8 e ++ (be 4 w ++ (be 4 (length bs) ++ bs))))) 2) false refl
+not-busy-bytes (Found ns) o = and-right (eqb (length (4 ∷ (be 2 (length ns) ++ namesOut ns))) 2) false refl
 
-pub call-calm : (room i : ℕ) (c : Call) (s : State) → Calm (does room i c s .reply)
-call-calm room i c s = every-call (λ (o : Out). Calm (o .reply)) room i s (record
+pub call-not-busy : (room i : ℕ) (c : Call) (s : State) → NotBusy (does room i c s .reply)
+call-not-busy room i c s = every-call (λ (o : Out). NotBusy (o .reply)) room i s (record
     { refused = λ k e. e; set' = λ n bs o t. tt; got = λ e w f m bs l t. tt; removed = λ n. tt; renamed = λ n k bs e o t. tt; found = λ a m l. tt; took = λ n a. tt; letGo = λ n. tt }) c
 
 -- THE TABLE STAYS AS IT SHOULD BE

@@ -17,7 +17,7 @@ use Rattle.promise.specs.Machine.{answered, changing, readsOnly, sheets}
 use Rattle.asking.specs.Lawful.{Lawful}
 use Rattle.asking.proofs.SheetCases.{TableOk}
 use Rattle.asking.proofs.SheetHands.{hands, keep-less, gone-empty, empty-stays, HandsOk, call-hands}
-use Rattle.asking.proofs.SheetReplies.{ReplyOk, reply-bytes, reply-length, calm-bytes, call-calm, call-good}
+use Rattle.asking.proofs.SheetReplies.{ReplyOk, reply-bytes, reply-length, not-busy-bytes, call-not-busy, call-good}
 use Rattle.asking.proofs.LongCalls.{TooLong, long-call}
 
 -- a query leaves the table
@@ -71,10 +71,10 @@ module _ (can : Call → Bool) (room : ℕ) (puts : (n : Name) (bs : Bytes) (e :
   stays-ok i None s t = t
   stays-ok i (Some c) s t = built (λ _ s'. TableOk s') i c s (call-good room i c s t .table') t
 
-  calm : (i : ℕ) (o : Option Call) (s : State) → isBusy (answered can room i o s .answer) ≡ false
+  not-busy : (i : ℕ) (o : Option Call) (s : State) → isBusy (answered can room i o s .answer) ≡ false
   unfolding answered
-  calm i None s = calm-bytes (No outOfRange) refl
-  calm i (Some c) s = built (λ r _. isBusy (encodeReply r) ≡ false) i c s (calm-bytes (does room i c s .reply) (call-calm room i c s)) (calm-bytes (No notBuilt) refl)
+  not-busy i None s = not-busy-bytes (No outOfRange) refl
+  not-busy i (Some c) s = built (λ r _. isBusy (encodeReply r) ≡ false) i c s (not-busy-bytes (does room i c s .reply) (call-not-busy room i c s)) (not-busy-bytes (No notBuilt) refl)
 
   query : (i : ℕ) (o : Option Call) (s : State) → readsOnly can o ≡ true → answered can room i o s .state ≡ s
   unfolding answered readsOnly
@@ -139,7 +139,7 @@ module _ (can : Call → Bool) (room : ℕ) (puts : (n : Name) (bs : Bytes) (e :
         okLeaves = λ i s t. t;
         answersBytes = λ i c s t. answers i (decodeCall c) s t .0;
         answersFit = λ i c s t. answers i (decodeCall c) s t .1;
-        neverBusy = λ i c s. calm i (decodeCall c) s;
+        neverBusy = λ i c s. not-busy i (decodeCall c) s;
         queryLeaves = λ i c s e. query i (decodeCall c) s e;
         longAsEmpty = λ i c s o l. too-long i (decodeCall c) s (long-call c o l) ∙ ap (λ x. answered can room i x s) (sym empty-none);
         leavesEmpty = λ i s. gone-empty i (s .holds);

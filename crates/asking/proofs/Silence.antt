@@ -25,41 +25,41 @@ use Rattle.asking.proofs.Shortened.{seen-bytes}
 
 -- NO STEP BUT A LETTER CHANGES WHO WAS HEARD, AND NONE BUT A TICK LAPSES
 
-abbrev pub Calm : List (Does Msg) → Type 0
-Calm [] = Unit {0}
-Calm (To j m ∷ ds) = Calm ds
-Calm (Tell k r ∷ ds) = Calm ds
-Calm (Lapse j ∷ ds) = ⊥
+abbrev pub LapsesNobody : List (Does Msg) → Type 0
+LapsesNobody [] = Unit {0}
+LapsesNobody (To j m ∷ ds) = LapsesNobody ds
+LapsesNobody (Tell k r ∷ ds) = LapsesNobody ds
+LapsesNobody (Lapse j ∷ ds) = ⊥
 
-calm-not : (ds : List (Does Msg)) (i : ℕ) → Calm ds → List·Memᴰ (Lapse i) ds → ⊥
-calm-not [] i h m = List·Memᴰ·not-nil m
-calm-not (To j x ∷ ds) i h m = elim (List·Memᴰ·cases-cons m) [ inl e ↦ (let z : _≡_ {A = ℕ} 0 1 = cc in omega arith) | inr m' ↦ calm-not ds i h m' ]
-calm-not (Tell k r ∷ ds) i h m = elim (List·Memᴰ·cases-cons m) [ inl e ↦ (let z : _≡_ {A = ℕ} 0 1 = cc in omega arith) | inr m' ↦ calm-not ds i h m' ]
-calm-not (Lapse j ∷ ds) i h m = absurd h
+not-lapsed : (ds : List (Does Msg)) (i : ℕ) → LapsesNobody ds → List·Memᴰ (Lapse i) ds → ⊥
+not-lapsed [] i h m = List·Memᴰ·not-nil m
+not-lapsed (To j x ∷ ds) i h m = elim (List·Memᴰ·cases-cons m) [ inl e ↦ (let z : _≡_ {A = ℕ} 0 1 = cc in omega arith) | inr m' ↦ not-lapsed ds i h m' ]
+not-lapsed (Tell k r ∷ ds) i h m = elim (List·Memᴰ·cases-cons m) [ inl e ↦ (let z : _≡_ {A = ℕ} 0 1 = cc in omega arith) | inr m' ↦ not-lapsed ds i h m' ]
+not-lapsed (Lapse j ∷ ds) i h m = absurd h
 
 -- a turn that leaves who was heard, and lapses nobody
-abbrev Quiet : {mc : Machine} → List ℕ → HouseTurn mc → Type 0
-Quiet f t = (t .house .heard ≡ f) × Calm (t .does)
+abbrev LeavesHeard : {mc : Machine} → List ℕ → HouseTurn mc → Type 0
+LeavesHeard f t = (t .house .heard ≡ f) × LapsesNobody (t .does)
 
 module _ {mc : Machine} (f : List ℕ) where
-  q-hello : (i c : ℕ) (a b : Bool) (h : House mc) → h .heard ≡ f → Quiet f (helloBy i c a b h)
+  q-hello : (i c : ℕ) (a b : Bool) (h : House mc) → h .heard ≡ f → LeavesHeard f (helloBy i c a b h)
   unfolding helloBy
   q-hello i c true b h e = (e, tt)
   q-hello i c false true h e = (e, tt)
   q-hello i c false false h e = (e, tt)
 
-  q-change : (i s j q : ℕ) (c : Bytes) (a b : Bool) (h : House mc) → h .heard ≡ f → Quiet f (changeBy i s j q c a b h)
+  q-change : (i s j q : ℕ) (c : Bytes) (a b : Bool) (h : House mc) → h .heard ≡ f → LeavesHeard f (changeBy i s j q c a b h)
   unfolding changeBy newChangeBy
   q-change i s j q c true b h e = (e, tt)
   q-change i s j q c false true h e = (e, tt)
   q-change i s j q c false false h e = (e, tt)
 
-  q-serve : (i s j q : ℕ) (c : Bytes) (b : Bool) (h : House mc) → h .heard ≡ f → Quiet f (serveBy i s j q c b h)
+  q-serve : (i s j q : ℕ) (c : Bytes) (b : Bool) (h : House mc) → h .heard ≡ f → LeavesHeard f (serveBy i s j q c b h)
   unfolding serveBy
   q-serve i s j q c true h e = (e, tt)
   q-serve i s j q c false h e = q-change i s j q c _ _ h e
 
-  q-current : (i s j q : ℕ) (c : Bytes) (b : Bool) (h : House mc) → h .heard ≡ f → Quiet f (currentBy i s j q c b h)
+  q-current : (i s j q : ℕ) (c : Bytes) (b : Bool) (h : House mc) → h .heard ≡ f → LeavesHeard f (currentBy i s j q c b h)
   unfolding currentBy
   q-current i s j q c true h e = q-serve i s j q c (mc .reads c) h e
   q-current i s j q c false h e = (e, tt)
@@ -69,12 +69,12 @@ module _ {mc : Machine} (f : List ℕ) where
   q-takes i true h e = e
   q-takes i false h e = e
 
-  q-request : (i s j q : ℕ) (c : Bytes) (b : Bool) (h : House mc) → h .heard ≡ f → Quiet f (requestBy i s j q c b h)
+  q-request : (i s j q : ℕ) (c : Bytes) (b : Bool) (h : House mc) → h .heard ≡ f → LeavesHeard f (requestBy i s j q c b h)
   unfolding requestBy
   q-request i s j q c true h e = q-current i s j q c _ (takesUp i s h) (q-takes i _ h e)
   q-request i s j q c false h e = (e, tt)
 
-  q-hears : (i : ℕ) (x : Msg) (h : House mc) → h .heard ≡ f → Quiet f (houseHears i x h)
+  q-hears : (i : ℕ) (x : Msg) (h : House mc) → h .heard ≡ f → LeavesHeard f (houseHears i x h)
   unfolding houseHears
   q-hears i (Hello c) h e = q-hello i c _ _ h e
   q-hears i (Welcome c s) h e = (e, tt)
@@ -205,14 +205,14 @@ stale {mc} t j (suc k) h i m = elim (stale-by i j (isSilent t h j) (lapsesFrom t
   | inr m' ↦ (let y = stale t (j + 1) k h i m' in let y0 = y .0 in let y1 = y .1 in (omega arith, omega arith, y .2))
 ]
 
-no-lapse : {mc : Machine} (j t : ℕ) (x : Msg) (b : Bool) (h : House mc) → Calm (houseFromBy j x t b h .does)
+no-lapse : {mc : Machine} (j t : ℕ) (x : Msg) (b : Bool) (h : House mc) → LapsesNobody (houseFromBy j x t b h .does)
 unfolding houseFromBy
 no-lapse j t x true h = q-hears (set (h .heard) j t) j x (hearing j t h) refl .1
 no-lapse j t x false h = tt
 
 stale-turn : {mc : Machine} (x : Comes Msg) (t : ℕ) (h : House mc) (i : ℕ) → List·Memᴰ (Lapse i) (houseTurn x t h .does) → (0 < i) × (i < 64) × (getD (h .heard) i 0 + 60000 ≤ t)
 unfolding houseTurn
-stale-turn (From j x) t h i m = absurd (calm-not _ i (no-lapse j t x _ h) m)
+stale-turn (From j x) t h i m = absurd (not-lapsed _ i (no-lapse j t x _ h) m)
 stale-turn (Ask k c) t h i m = absurd (List·Memᴰ·not-nil m)
 stale-turn Beat t h i m = let y = stale t 1 63 h i m in let y0 = y .0 in let y1 = y .1 in (omega arith, omega arith, y .2)
 

@@ -7,44 +7,33 @@ use Prim.Native.Nat.{ℕ, zero, suc, _+_, _-_, _<_, _≤_}
 use native.Mathlib.Omega.{arith}
 use lib.Dec.{eqb, leb}
 use lib.ListN.{length, getD, set}
-use Rattle.std.proofs.shelf.Tests.{cases-eq, le-leb, eqb-true}
+use Rattle.std.proofs.shelf.Tests.{cases-eq, le-leb}
 use Rattle.promise.specs.Bytes.{Bytes}
 use Rattle.promise.specs.Machine.{Machine}
 use Rattle.promise.specs.Desks.{From, Beat, Does, To, Tell, Lapse, Letter, Seen, told, posted, tells, at, Stand, there, World, Clocks, turned, hearing, lit, Goes, hears, beats, lights, Between, stay, talk, beat, light, Within, TwoMinutes}
 use Rattle.codec.specs.Messages.{Msg, Hello, Welcome, Request, Response}
 use Rattle.asking.specs.Lawful.{Lawful}
 use Rattle.asking.specs.House.{House, HouseTurn, peerOf, houseGoesOn}
-use Rattle.asking.specs.Desk.{Slot, Idle, Waiting, Desk, DeskTurn, requests, sentNow, unsent, unsentNow, notSent, isDue, anyDue, adoptsBy, sendsUnsent, tellsAnswer, tickBy, speaks}
+use Rattle.asking.specs.Desk.{Slot, Idle, Waiting, Desk, DeskTurn, requests, sentNow, unsentNow, notSent, isDue, anyDue, adoptsBy, sendsUnsent, tellsAnswer, tickBy, speaks}
 use Rattle.asking.specs.Code.{Settings, Mind, house, desk, Turn, houseTurn, deskTurn, mindTurn, mindGoesOn, asking}
 use Rattle.asking.proofs.View.{AbsSlot, idle, waiting, absHouse, absSlot, slotsOf}
 use Rattle.asking.proofs.Base.{at-same, at-other}
 use Rattle.asking.proofs.Arrays.{getD-at, slots-map, waits-inside}
 use Rattle.asking.proofs.Facts.{DeskFacts, SlotFacts, Facts, all-facts}
 use Rattle.asking.proofs.Inv.{Ghost, Core, DeskOk}
-use Rattle.asking.proofs.AtDesk.{a-sent, a-unsent, a-unsent-now}
+use Rattle.asking.proofs.AtDesk.{a-sent, a-unsent-now, adopts-session, adopts-slots}
 use Rattle.asking.proofs.OneTable.{InvOf, HouseIs, inv, is-house, is-desk}
 use Rattle.asking.proofs.Shortened.{short}
-use Rattle.asking.proofs.Waiting.{WaitsOk, WaitsIs, Still, all-wait}
+use Rattle.asking.proofs.Waiting.{WaitsOk, WaitsIs, SendsOnly, all-wait}
 use Rattle.asking.proofs.Silence.{waited}
 use Rattle.asking.proofs.Answers.{Answered, house-answers, Welcomed, house-welcomes, desk-adopts, desk-tells, asking', all-asked, unsent-passes, adopts-passes, none-due, Passes}
 
-still-tells : (i : ℕ) (ds : List (Does Msg)) → Still ds → tells i ds ≡ []
+sends-tells : (i : ℕ) (ds : List (Does Msg)) → SendsOnly ds → tells i ds ≡ []
 unfolding tells
-still-tells i [] h = refl
-still-tells i (To j x ∷ ds) h = still-tells i ds h
-still-tells i (Tell k r ∷ ds) h = absurd h
-still-tells i (Lapse j ∷ ds) h = absurd h
-
--- a session that was adopted, and the slots then
-adopted : (s : ℕ) (d : Desk) (b : Bool) → eqb s (d .session) ≡ b → adoptsBy s b d .session ≡ s
-unfolding adoptsBy
-adopted s d true e = sym (eqb-true s (d .session) e)
-adopted s d false e = refl
-
-adopted-same : (s : ℕ) (d : Desk) (b : Bool) (j : ℕ) → slotsOf (adoptsBy s b d .slots) j ≡ slotsOf (d .slots) j
-unfolding adoptsBy
-adopted-same s d true j = refl
-adopted-same s d false j = slots-map unsent a-unsent (d .slots) j
+sends-tells i [] h = refl
+sends-tells i (To j x ∷ ds) h = sends-tells i ds h
+sends-tells i (Tell k r ∷ ds) h = absurd h
+sends-tells i (Lapse j ∷ ds) h = absurd h
 
 -- STEPS BETWEEN. w: where it began; t0: now; most: how many steps there were by then
 module _ (mc : Machine) (law : Lawful mc) (z : Settings) (clock : ℕ → ℕ → ℕ) (clocks : Clocks clock) (all : ℕ) (some' : 2 ≤ all) (most' : all ≤ 64) (i : ℕ) (pos : 0 < i) (small : i < all) (w : World (Mind mc) Msg) (t0 base : ℕ) (base-small : base < 72057594038976000) where
@@ -63,12 +52,12 @@ module _ (mc : Machine) (law : Lawful mc) (z : Settings) (clock : ℕ → ℕ �
   letters-are : (b t : ℕ) (ds ds' : List (Does Msg)) (ls new : List (Letter Msg)) → ds ≡ ds' → t ≡ t0 → ls ≡ new ++ w .letters → posted b t ds ++ ls ≡ (posted b t0 ds' ++ new) ++ w .letters
   letters-are b t ds ds' ls new e1 e2 e3 = rw append-assoc (λ y. posted b (e2 y) (e1 y) ++ e3 y)
 
-  talk-house : (turns : ℕ) (fs : List Seen) (h : House mc) (d : Desk) (new : List (Letter Msg)) (a : At turns fs h d new) (l : Letter Msg) → List·Memᴰ l new → l .to ≡ 0 → l .by ≡ i → (ds : List (Does Msg)) (h' : House mc) → houseTurn (From (l .by) (l .word)) (clock 0 (a .v .now)) h ≡ record { does = ds; house = h' } → Still ds → At (suc turns) fs h' d (posted 0 t0 ds ++ new)
+  talk-house : (turns : ℕ) (fs : List Seen) (h : House mc) (d : Desk) (new : List (Letter Msg)) (a : At turns fs h d new) (l : Letter Msg) → List·Memᴰ l new → l .to ≡ 0 → l .by ≡ i → (ds : List (Does Msg)) (h' : House mc) → houseTurn (From (l .by) (l .word)) (clock 0 (a .v .now)) h ≡ record { does = ds; house = h' } → SendsOnly ds → At (suc turns) fs h' d (posted 0 t0 ds ++ new)
   unfolding mindTurn
   talk-house turns fs h d new a l m to by ds h' e st =
       record {
         v = turned (asking mc z) 0 tn (hearing 0 (l .by) (clock 0 (a .v .now)) (a .v));
-        between = subst (λ y. Between (asking mc z) clock i w (suc turns) (y ++ fs) (turned (asking mc z) 0 tn (hearing 0 (l .by) (clock 0 (a .v .now)) (a .v)))) (ap (λ (t : HouseTurn mc). tells 0 (t .does)) e ∙ still-tells 0 ds st) (talk 0 (house h) l new (inl refl) (inr by) (a .between) (a .houseIs) (a .letters') m to);
+        between = subst (λ y. Between (asking mc z) clock i w (suc turns) (y ++ fs) (turned (asking mc z) 0 tn (hearing 0 (l .by) (clock 0 (a .v .now)) (a .v)))) (ap (λ (t : HouseTurn mc). tells 0 (t .does)) e ∙ sends-tells 0 ds st) (talk 0 (house h) l new (inl refl) (inr by) (a .between) (a .houseIs) (a .letters') m to);
         n = suc (a .n);
         few = (let f = a .few in omega arith);
         seen = tells 0 (tn .does) ++ a .seen;
@@ -279,7 +268,7 @@ module _ (mc : Machine) (law : Lawful mc) (z : Settings) (clock : ℕ → ℕ �
           let ds : List (Does Msg) = requests notSent (d2 .session) 0 (d2 .slots) in
           let d3 : Desk = sendsUnsent t2 d2 .desk in
           let a3 : At (suc (suc (suc turns))) (tells i ds ++ []) (wl .h') d3 (posted i t0 ds ++ (lw ∷ lh ∷ [])) = talk-desk (suc (suc turns)) [] (wl .h') d1 (lw ∷ lh ∷ []) a2 lw (List·Memᴰ·head refl) refl refl ds d3 (desk-adopts z d1 t2 (wl .s) ex (wl .pos)) in
-          let sess : d2 .session ≡ wl .s = adopted (wl .s) d1 (eqb (wl .s) (d1 .session)) refl in
+          let sess : d2 .session ≡ wl .s = adopts-session (wl .s) (eqb (wl .s) (d1 .session)) d1 refl in
           let wpos = wl .pos in
           let same : (j : ℕ) → slotsOf (map (sentNow notSent t2) (d2 .slots)) j ≡ slotsOf (d2 .slots) j = slots-map (sentNow notSent t2) (a-sent notSent t2) (d2 .slots) in
           let s = serve-all 8 (suc (suc (suc turns))) (omega arith) (omega arith) (tells i ds ++ []) (wl .h') d3 (posted i t0 ds ++ (lw ∷ lh ∷ [])) a3
@@ -288,7 +277,7 @@ module _ (mc : Machine) (law : Lawful mc) (z : Settings) (clock : ℕ → ℕ �
             on = elim (wl .on) [ inl o ↦ inl (sess ∙ o) | inr o ↦ inr (sess ∙ o) ];
             sent = λ j q k x l w'. Memᴰ·append-left (lw ∷ lh ∷ []) (all-asked i t0 notSent (d2 .session) (d2 .slots) (adopts-passes (wl .s) (eqb (wl .s) (d1 .session)) d1 (unsent-passes t (d .slots))) j q k x (sym (same j) ∙ w'));
           }) in
-          told-same (map (sentNow notSent t2) (d2 .slots)) d3 refl (λ j. same j ∙ (adopted-same (wl .s) d1 (eqb (wl .s) (d1 .session)) j ∙ slots-map (unsentNow t) (a-unsent-now t) (d .slots) j)) (suc (suc (suc turns))) (omega arith) (tells i ds ++ []) s
+          told-same (map (sentNow notSent t2) (d2 .slots)) d3 refl (λ j. same j ∙ (adopts-slots (wl .s) (eqb (wl .s) (d1 .session)) d1 j ∙ slots-map (unsentNow t) (a-unsent-now t) (d .slots) j)) (suc (suc (suc turns))) (omega arith) (tells i ds ++ []) s
 
       go : (x y : Bool) → anyDue (z .retry) t (d .slots) ≡ x → d .answered ≡ y → Served 8 (turns + 3) [] d
       go false y ex ey = record { turns' = turns; few = omega arith; fs' = []; v = a .v; between = a .between; now' = a .nowIs; more' = λ e m. m; all-told = λ j q k x l w'. absurd (none-due (z .retry) t (d .slots) ex due j q k x w') }

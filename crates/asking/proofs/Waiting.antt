@@ -14,14 +14,14 @@ use Rattle.promise.specs.Desks.{Comes, From, Ask, Beat, Does, To, Tell, Lapse, 
 use Rattle.codec.specs.Messages.{Msg, Hello, Welcome, Request, Response, Alive}
 use Rattle.asking.specs.Lawful.{Lawful}
 use Rattle.asking.specs.House.{next64}
-use Rattle.asking.specs.Desk.{Slot, Idle, Waiting, Desk, DeskTurn, Free, full, free, firstIdle, noneWaits, sayIf, requests, sentNow, unsent, unsentNow, notSent, isDue, firstSaid, callBy, shortened, adoptsBy, welcomeBy, seqBy, slotBy, responseBy, deskHears, deskFromBy, aliveBy, tickBy, deskBegins}
+use Rattle.asking.specs.Desk.{Slot, Idle, Waiting, Desk, DeskTurn, Free, full, free, firstIdle, noneWaits, sayIf, requests, sentNow, unsentNow, notSent, isDue, firstSaid, callBy, shortened, adoptsBy, welcomeBy, seqBy, slotBy, responseBy, deskHears, deskFromBy, aliveBy, tickBy, deskBegins}
 use Rattle.asking.specs.Code.{Settings, Mind, desk, Turn, deskTurn, mindTurn, mindBegins, mindGoesOn, asking}
 use Rattle.asking.proofs.View.{AbsSlot, idle, waiting, absSlot, slotsOf, absHouse, AbsHouse}
 use Rattle.asking.proofs.Base.{at-ind, at-same, at-other, at-cases}
 use Rattle.asking.proofs.Arrays.{getD-at, slots-map, waits-inside, first-idle-0, replicate-same}
 use Rattle.asking.proofs.Inv.{Ghost, Real, Core, DeskOk}
 use Rattle.asking.proofs.AtHouse.{limit}
-use Rattle.asking.proofs.AtDesk.{a-sent, a-unsent, a-unsent-now}
+use Rattle.asking.proofs.AtDesk.{a-sent, a-unsent-now, adopts-slots}
 use Rattle.asking.proofs.OneTable.{Inv, inv, is-desk}
 use Rattle.asking.proofs.Shortened.{short, short-used}
 use Rattle.asking.proofs.Counting.{W, in-without, without-in, in-away, away-in, in-settled, settled-in}
@@ -39,41 +39,41 @@ waits-same i x ws ws' f f' (inl a) = inl (a .0, λ k m. a .1 k (f' k m))
 waits-same i x ws ws' f f' (inr a) = inr (a .0, a .1, record { slotIn = λ j q k y w. f k (a .2 .slotIn j q k y w); inSlot = λ k m. a .2 .inSlot k (f' k m) })
 
 -- NO TELLING
-abbrev pub Still : List (Does Msg) → Type 0
-Still [] = Unit {0}
-Still (To j m ∷ ds) = Still ds
-Still (Tell k r ∷ ds) = ⊥
-Still (Lapse j ∷ ds) = ⊥
+abbrev pub SendsOnly : List (Does Msg) → Type 0
+SendsOnly [] = Unit {0}
+SendsOnly (To j m ∷ ds) = SendsOnly ds
+SendsOnly (Tell k r ∷ ds) = ⊥
+SendsOnly (Lapse j ∷ ds) = ⊥
 
-pub still-settled : (i : ℕ) (ds : List (Does Msg)) (ws : List Waits) → Still ds → settled i ds ws ≡ ws
+pub sends-settled : (i : ℕ) (ds : List (Does Msg)) (ws : List Waits) → SendsOnly ds → settled i ds ws ≡ ws
 unfolding settled
-still-settled i [] ws h = refl
-still-settled i (To j x ∷ ds) ws h = still-settled i ds ws h
-still-settled i (Tell k r ∷ ds) ws h = absurd h
-still-settled i (Lapse j ∷ ds) ws h = absurd h
+sends-settled i [] ws h = refl
+sends-settled i (To j x ∷ ds) ws h = sends-settled i ds ws h
+sends-settled i (Tell k r ∷ ds) ws h = absurd h
+sends-settled i (Lapse j ∷ ds) ws h = absurd h
 
-pub still-not : (ds : List (Does Msg)) (k : ℕ) (r : Bytes) → Still ds → List·Memᴰ (Tell k r) ds → ⊥
-still-not [] k r h m = List·Memᴰ·not-nil m
-still-not (To j x ∷ ds) k r h m = elim (List·Memᴰ·cases-cons m) [ inl e ↦ (let z : _≡_ {A = ℕ} 0 1 = cc in omega arith) | inr m' ↦ still-not ds k r h m' ]
-still-not (Tell k' r' ∷ ds) k r h m = absurd h
-still-not (Lapse j ∷ ds) k r h m = absurd h
+pub sends-not-told : (ds : List (Does Msg)) (k : ℕ) (r : Bytes) → SendsOnly ds → List·Memᴰ (Tell k r) ds → ⊥
+sends-not-told [] k r h m = List·Memᴰ·not-nil m
+sends-not-told (To j x ∷ ds) k r h m = elim (List·Memᴰ·cases-cons m) [ inl e ↦ (let z : _≡_ {A = ℕ} 0 1 = cc in omega arith) | inr m' ↦ sends-not-told ds k r h m' ]
+sends-not-told (Tell k' r' ∷ ds) k r h m = absurd h
+sends-not-told (Lapse j ∷ ds) k r h m = absurd h
 
-still-say : (b : Bool) (m : Msg) (ds : List (Does Msg)) → Still ds → Still (sayIf b (To 0 m) ds)
+sends-say : (b : Bool) (m : Msg) (ds : List (Does Msg)) → SendsOnly ds → SendsOnly (sayIf b (To 0 m) ds)
 unfolding sayIf
-still-say true m ds h = h
-still-say false m ds h = h
+sends-say true m ds h = h
+sends-say false m ds h = h
 
-pub still-requests : (t : Bool → ℕ → Bool) (s j : ℕ) (xs : List Slot) → Still (requests t s j xs)
+pub sends-requests : (t : Bool → ℕ → Bool) (s j : ℕ) (xs : List Slot) → SendsOnly (requests t s j xs)
 unfolding requests
-still-requests t s j [] = tt
-still-requests t s j (Idle q ∷ xs) = still-requests t s (j + 1) xs
-still-requests t s j (Waiting q k c b f l ∷ xs) = still-say (t b l) (Request s j q c) (requests t s (j + 1) xs) (still-requests t s (j + 1) xs)
+sends-requests t s j [] = tt
+sends-requests t s j (Idle q ∷ xs) = sends-requests t s (j + 1) xs
+sends-requests t s j (Waiting q k c b f l ∷ xs) = sends-say (t b l) (Request s j q c) (requests t s (j + 1) xs) (sends-requests t s (j + 1) xs)
 
-pub still-first : (d : Desk) (j q : ℕ) (x : Bytes) (a b : Bool) → Still (firstSaid d j q x a b)
+pub sends-first : (d : Desk) (j q : ℕ) (x : Bytes) (a b : Bool) → SendsOnly (firstSaid d j q x a b)
 unfolding firstSaid
-still-first d j q x false b = tt
-still-first d j q x true true = tt
-still-first d j q x true false = tt
+sends-first d j q x false b = tt
+sends-first d j q x true true = tt
+sends-first d j q x true false = tt
 
 -- A DESK'S TURNS
 
@@ -85,8 +85,8 @@ abbrev pub Once : (ℕ → AbsSlot) → Type 0
 Once f = (j q k : ℕ) (x : Bytes) (j' q' : ℕ) (x' : Bytes) → f j ≡ waiting q k x → f j' ≡ waiting q' k x' → j ≡ j'
 
 module _ (i : ℕ) (d : Desk) (ws : List Waits) (ok : WaitsOk i (slotsOf (d .slots)) ws) (once : Once (slotsOf (d .slots))) where
-  same : (xs : List Slot) (ds : List (Does Msg)) → ((j : ℕ) → slotsOf xs j ≡ slotsOf (d .slots) j) → Still ds → WaitsOk i (slotsOf xs) (settled i ds ws)
-  same xs ds e h = subst (λ f. WaitsOk i f (settled i ds ws)) (λ z j. sym (e j) z) (subst (λ y. WaitsOk i (slotsOf (d .slots)) y) (sym (still-settled i ds ws h)) ok)
+  same : (xs : List Slot) (ds : List (Does Msg)) → ((j : ℕ) → slotsOf xs j ≡ slotsOf (d .slots) j) → SendsOnly ds → WaitsOk i (slotsOf xs) (settled i ds ws)
+  same xs ds e h = subst (λ f. WaitsOk i f (settled i ds ws)) (λ z j. sym (e j) z) (subst (λ y. WaitsOk i (slotsOf (d .slots)) y) (sym (sends-settled i ds ws h)) ok)
 
   w-seq : (j q p k : ℕ) (x r : Bytes) → slotsOf (d .slots) j ≡ waiting p k x → (b : Bool) → DeskWaits i (seqBy j q k r b d) (settled i (seqBy j q k r b d .does) ws)
   unfolding seqBy settled
@@ -123,16 +123,11 @@ module _ (i : ℕ) (d : Desk) (ws : List Waits) (ok : WaitsOk i (slotsOf (d .slo
   w-response j q r true = w-slot j q r (getD (d .slots) j (Idle 0)) refl
   w-response j q r false = same (d .slots) [] (λ _. refl) tt
 
-  adopts-slots : (s : ℕ) (b : Bool) (j : ℕ) → slotsOf (adoptsBy s b d .slots) j ≡ slotsOf (d .slots) j
-  unfolding adoptsBy
-  adopts-slots s true j = refl
-  adopts-slots s false j = slots-map unsent a-unsent (d .slots) j
-
   w-welcome : (t s : ℕ) (b : Bool) → DeskWaits i (welcomeBy t s b d) (settled i (welcomeBy t s b d .does) ws)
   unfolding welcomeBy
   w-welcome t s true =
       let d1 : Desk = adoptsBy s (eqb s (d .session)) d in
-      same (map (sentNow notSent t) (d1 .slots)) (requests notSent (d1 .session) 0 (d1 .slots)) (λ j. slots-map (sentNow notSent t) (a-sent notSent t) (d1 .slots) j ∙ adopts-slots s (eqb s (d .session)) j) (still-requests notSent (d1 .session) 0 (d1 .slots))
+      same (map (sentNow notSent t) (d1 .slots)) (requests notSent (d1 .session) 0 (d1 .slots)) (λ j. slots-map (sentNow notSent t) (a-sent notSent t) (d1 .slots) j ∙ adopts-slots s (eqb s (d .session)) d j) (sends-requests notSent (d1 .session) 0 (d1 .slots))
   w-welcome t s false = same (d .slots) [] (λ _. refl) tt
 
   w-alive : (t : ℕ) (b : Bool) → DeskWaits i (aliveBy t b d) (settled i (aliveBy t b d .does) ws)
@@ -143,7 +138,7 @@ module _ (i : ℕ) (d : Desk) (ws : List Waits) (ok : WaitsOk i (slotsOf (d .slo
   w-tick : (r t : ℕ) (a b : Bool) → DeskWaits i (tickBy r t a b d) (settled i (tickBy r t a b d .does) ws)
   unfolding tickBy
   w-tick r t false b = w-alive t _
-  w-tick r t true true = same (map (sentNow (isDue r t) t) (d .slots)) (requests (isDue r t) (d .session) 0 (d .slots)) (slots-map (sentNow (isDue r t) t) (a-sent (isDue r t) t) (d .slots)) (still-requests (isDue r t) (d .session) 0 (d .slots))
+  w-tick r t true true = same (map (sentNow (isDue r t) t) (d .slots)) (requests (isDue r t) (d .session) 0 (d .slots)) (slots-map (sentNow (isDue r t) t) (a-sent (isDue r t) t) (d .slots)) (sends-requests (isDue r t) (d .session) 0 (d .slots))
   w-tick r t true false = same (map (unsentNow t) (d .slots)) (To 0 (Hello (d .nonce)) ∷ []) (slots-map (unsentNow t) (a-unsent-now t) (d .slots)) tt
 
   w-hears : (t : ℕ) (m : Msg) → DeskWaits i (deskHears t m d) (settled i (deskHears t m d .does) ws)
@@ -175,7 +170,7 @@ module _ (i : ℕ) (d : Desk) (ws : List Waits) (ok : WaitsOk i (slotsOf (d .slo
         inSlot = λ k' m. let z = in-without i k (W i k ∷ ws) (W i k') m in elim (List·Memᴰ·cases-cons (z .0)) [ inl p ↦ absurd (z .1 refl (ap (λ (a : Waits). a .number) p)) | inr m' ↦ ok .inSlot k' m' ];
       }
   w-free grabs t k x0 new (free j q) e =
-      subst (λ y. WaitsOk i (slotsOf (set (d .slots) j s')) y) (sym (still-settled i (firstSaid d j (next64 q) (shortened x0) (eqb (d .session) 0) (noneWaits (d .slots))) (W i k ∷ ws) (still-first d j (next64 q) (shortened x0) (eqb (d .session) 0) (noneWaits (d .slots)))))
+      subst (λ y. WaitsOk i (slotsOf (set (d .slots) j s')) y) (sym (sends-settled i (firstSaid d j (next64 q) (shortened x0) (eqb (d .session) 0) (noneWaits (d .slots))) (W i k ∷ ws) (sends-first d j (next64 q) (shortened x0) (eqb (d .session) 0) (noneWaits (d .slots)))))
       (subst (λ f. WaitsOk i f (W i k ∷ ws)) (λ z j'. sym (getD-at absSlot (d .slots) j s' (Idle 0) (first-idle-0 (d .slots) j q e .inside) j') z) (record { slotIn = slot-in; inSlot = in-slot }))
     where
       s' : Slot

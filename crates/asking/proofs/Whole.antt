@@ -17,7 +17,7 @@ use Rattle.asking.proofs.OneTable.{one-table}
 use Rattle.asking.proofs.Busy.{busy-at-nine}
 use Rattle.asking.proofs.Silence.{lapses-rightly, not-until-monday}
 use Rattle.asking.proofs.TwoMinutes.{two-minutes}
-use Rattle.asking.proofs.Decoded.{decoded-decent}
+use Rattle.asking.proofs.Decoded.{decoded-not-busy}
 use Rattle.asking.proofs.Lifted.{worldOf, lifting, byte-noise, tell-so, lapse-so, between-so}
 
 module _ (back : ReadsBack) (mc : Machine) (law : Lawful mc) (z : Settings) where
@@ -50,7 +50,7 @@ module _ (back : ReadsBack) (mc : Machine) (law : Lawful mc) (z : Settings) wher
       go : (o : Option Msg) → decodeMsg b ≡ o → List·Memᴰ (Tell k busy) (decodedTurn z j o (clock i (v .now)) m .does) → (c : Bytes) × (From j b ≡ Ask k c) × (8 ≤ countAt i (v .waits))
       go None p s = absurd (none-told j (clock i (v .now)) m k s)
       go (Some x) p s =
-          let u = busy-at-nine mc law z clock clocks all n (omega arith) es v g i k m (From j x) (decoded-decent b x p) e (tell-so k busy (mindTurn z (From j x) (clock i (v .now)) m .does) (some-told j x (clock i (v .now)) m k s)) in
+          let u = busy-at-nine mc law z clock clocks all n (omega arith) es v g i k m (From j x) (decoded-not-busy b x p) e (tell-so k busy (mindTurn z (From j x) (clock i (v .now)) m .does) (some-told j x (clock i (v .now)) m k s)) in
           absurd (let u1 = u .1 in let o : _≡_ {A = ℕ} 0 1 = cc in omega arith)
   busy-turn clock clocks all n lt es v g i k m (Ask k' c) e t =
       let u = busy-at-nine mc law z clock clocks all n (omega arith) es v g i k m (Ask k' c) tt e (tell-so k busy (mindTurn z (Ask k' c) (clock i (v .now)) m .does) t) in

@@ -103,8 +103,8 @@ askingBytes m z = record {
 
 -- THE THEOREM
 
--- over bytes the promise is kept, if messages are read back as they were written, by every lawful machine and with every retransmission time
--- up to the longest
+-- Over bytes the promise is kept of this machine with every retransmission time up to the longest, if messages are read back as they were
+-- written. It is proved of every lawful machine; a contract can speak of one family only.
 abbrev pub KeepsPromise : (longest : ℕ) → (m : Machine) → Type 0
 KeepsPromise r m = ReadsBack → (z : Settings) → z .retry ≤ r → Whole m (askingBytes m z)
 

@@ -34,8 +34,8 @@ pub record DeskTurn : Type 0 where
 unfoldable pub deskBegins : (nonce clock : ℕ) → Desk
 deskBegins c t = record { nonce = c; session = 0; answered = false; spoke = t; mayHold = false; slots = replicate eight (Idle 0) }
 
-abbrev pub still : Desk → DeskTurn
-still d = record { does = []; desk = d }
+abbrev pub doesNothing : Desk → DeskTurn
+doesNothing d = record { does = []; desk = d }
 
 -- when it last said anything, if it says this now
 unfoldable pub spokeBy : (clock old : ℕ) → List (Does Msg) → ℕ
@@ -63,22 +63,22 @@ noneWaits [] = true
 noneWaits (Idle q ∷ xs) = noneWaits xs
 noneWaits (Waiting q k c s f l ∷ xs) = false
 
--- a Request for each call that waits and passes; the first of the list is slot j
 unfoldable pub sayIf : Bool → Does Msg → List (Does Msg) → List (Does Msg)
 sayIf true x ds = x ∷ ds
 sayIf false x ds = ds
 
+-- a Request for each call that waits and passes; the first of the list is slot j
 unfoldable pub requests : (passes : (sent : Bool) → (last : ℕ) → Bool) → (session j : ℕ) → List Slot → List (Does Msg)
 requests p s j [] = []
 requests p s j (Idle q ∷ xs) = requests p s (j + 1) xs
 requests p s j (Waiting q k c b f l ∷ xs) = sayIf (p b l) (To 0 (Request s j q c)) (requests p s (j + 1) xs)
 
--- such a call was sent now
 unfoldable pub sentIf : Bool → (clock : ℕ) → Slot → Slot
 sentIf true t (Idle q) = Idle q
 sentIf true t (Waiting q k c b f l) = Waiting q k c true f t
 sentIf false t x = x
 
+-- each that waits and passes was sent now
 unfoldable pub sentNow : (passes : (sent : Bool) → (last : ℕ) → Bool) → (clock : ℕ) → Slot → Slot
 sentNow p t (Idle q) = Idle q
 sentNow p t (Waiting q k c b f l) = sentIf (p b l) t (Waiting q k c b f l)
@@ -153,7 +153,7 @@ sendsUnsent t d = speaks t (requests notSent (d .session) 0 (d .slots)) (map (se
 
 unfoldable pub welcomeBy : (clock s : ℕ) → (mine : Bool) → Desk → DeskTurn
 welcomeBy t s true d = sendsUnsent t (adoptsBy s (eqb s (d .session)) d)
-welcomeBy t s false d = still d
+welcomeBy t s false d = doesNothing d
 
 abbrev pub welcome : (clock nonce s : ℕ) → Desk → DeskTurn
 welcome t c s d = welcomeBy t s (eqb c (d .nonce) && (not (eqb s 0) && not (d .answered))) d
@@ -168,28 +168,28 @@ tellsAnswer j q k a d = record {
 
 unfoldable pub seqBy : (j q k : ℕ) → Bytes → (same : Bool) → Desk → DeskTurn
 seqBy j q k a true d = tellsAnswer j q k a d
-seqBy j q k a false d = still d
+seqBy j q k a false d = doesNothing d
 
 unfoldable pub slotBy : (j q : ℕ) → Bytes → Slot → Desk → DeskTurn
-slotBy j q a (Idle p) d = still d
+slotBy j q a (Idle p) d = doesNothing d
 slotBy j q a (Waiting p k c b f l) d = seqBy j q k a (eqb p q) d
 
 unfoldable pub responseBy : (j q : ℕ) → Bytes → (current : Bool) → Desk → DeskTurn
 responseBy j q a true d = slotBy j q a (getD (d .slots) j (Idle 0)) d
-responseBy j q a false d = still d
+responseBy j q a false d = doesNothing d
 
 -- MESSAGES
 
 unfoldable pub deskHears : (clock : ℕ) → Msg → Desk → DeskTurn
-deskHears t (Hello c) d = still d
+deskHears t (Hello c) d = doesNothing d
 deskHears t (Welcome c s) d = welcome t c s d
-deskHears t (Request s j q c) d = still d
+deskHears t (Request s j q c) d = doesNothing d
 deskHears t (Response s j q g a) d = responseBy j q a (isSession s (d .session)) d
-deskHears t (Alive s) d = still d
+deskHears t (Alive s) d = doesNothing d
 
 unfoldable pub deskFromBy : (clock : ℕ) → Msg → (house : Bool) → Desk → DeskTurn
 deskFromBy t x true d = deskHears t x d
-deskFromBy t x false d = still d
+deskFromBy t x false d = doesNothing d
 
 -- what doesn't come from the house is noise
 abbrev pub deskFrom : (i clock : ℕ) → Msg → Desk → DeskTurn
@@ -199,7 +199,7 @@ deskFrom i t x d = deskFromBy t x (eqb i 0) d
 
 unfoldable pub aliveBy : (clock : ℕ) → (needed : Bool) → Desk → DeskTurn
 aliveBy t true d = speaks t (To 0 (Alive (d .session)) ∷ []) (d .slots) d
-aliveBy t false d = still d
+aliveBy t false d = doesNothing d
 
 -- a desk that says nothing else says that it is there, if it may have something in hand
 abbrev pub alive : (clock : ℕ) → Desk → DeskTurn

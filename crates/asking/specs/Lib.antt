@@ -2,3 +2,4 @@ pub mod Lawful
 pub mod House
 pub mod Desk
 pub mod Code
+pub mod Sparing

@@ -8,3 +8,4 @@ pub mod Tidy
 pub mod Held
 pub mod PutRead
 pub mod Worked
+pub mod Laws

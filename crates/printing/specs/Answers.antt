@@ -10,7 +10,7 @@ use Rattle.std.specs.declared.option.Option.{Option}
 use Rattle.std.specs.declared.option.Option.the-variants.{Some, None}
 use Rattle.promise.specs.Bytes.{Bytes, partIn}
 use Rattle.promise.specs.Sheets as t
-use Rattle.codec.specs.Calls.{refusalNumber}
+use Rattle.codec.specs.Answers.{refusalNumber}
 use Rattle.codec.specs.declared.answer.Answer.{Answer}
 use Rattle.codec.specs.declared.answer.Answer.the-variants as a
 use Rattle.text.specs.Decimals.{decimalText}

@@ -9,7 +9,7 @@ ghost use lib.ListN.{length};
 ghost use Rattle.std.specs.Of.Vec.{vec-len, vec-items, vec-cap};
 ghost use Rattle.std.specs.Options.{mapped, Cases};
 ghost use Rattle.std.specs.Results.{isOk};
-ghost use Rattle.codec.specs.Calls.{refusalNumber};
+ghost use Rattle.codec.specs.Answers.{refusalNumber};
 ghost use Rattle.printing.specs.Answers.{headName, listed, answerOf, namesText, replyText, answerLine, carried};
 ghost use Rattle.text.specs.Decimals.{decimalText};
 ghost use Rattle.text.specs.Hex.{hexText};

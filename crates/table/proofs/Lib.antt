@@ -1,0 +1,16 @@
+pub mod Order
+pub mod Ranks
+pub mod Finds
+pub mod Seeks
+pub mod Fits
+pub mod Holds
+pub mod Parts
+pub mod Readings
+pub mod Pastes
+pub mod Apart
+pub mod Spots
+pub mod Packs
+pub mod Weights
+pub mod Verdicts
+pub mod Laying
+pub mod Changing
