@@ -9,17 +9,23 @@ use console::number_arguments;
 use console::report;
 use ids::CallNumber;
 use ids::Clock;
+use ids::ClockPartialOrd;
 use lines::event::read_desk;
-use printing::told::write_answer;
-use printing::print::write_sync;
 use lines::scratch::Event;
 use lines::shape::Scratch;
+use printing::print::write_sync;
+use printing::told::write_answer;
 use settings::desk_settings;
 use std::error::AnyError;
 use std::io;
 
 // How many calls wait at most.
 const SLOTS: usize = 8;
+
+// What is told where eight calls wait.
+fn eight_wait<'a>() -> Answer<'a> {
+    Answer::No(Refusal::EightWait)
+}
 
 // What it knows: so far, its clock, and how many calls wait.
 #[derive(Drop)]
@@ -44,7 +50,7 @@ impl Desk {
             self.waiting += 1;
             return Ok(());
         }
-        let _ = write_answer(&mut console.text, number, Answer::No(Refusal::EightWait));
+        let _ = write_answer(&mut console.text, number, eight_wait());
         console.say()
     }
 
@@ -83,7 +89,10 @@ fn run(rt: &LibcRuntime) -> Result<(), AnyError> {
         return Err(wrong.text().into());
     }
     let scratch = Scratch::new(rt.alloc(), LONGEST_LINE)?;
-    let desk = Desk { clock: Clock(0), waiting: 0 };
+    let desk = Desk {
+        clock: Clock(0),
+        waiting: 0,
+    };
     let mut program = Program { scratch, desk };
     handle_lines(rt, &mut program)?;
     Ok(())

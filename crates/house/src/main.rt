@@ -6,10 +6,11 @@ use console::handle_lines;
 use console::number_arguments;
 use console::report;
 use ids::Clock;
+use ids::ClockPartialOrd;
 use lines::event::read_house;
-use printing::print::write_sync;
 use lines::scratch::Event;
 use lines::shape::Scratch;
+use printing::print::write_sync;
 use settings::house_settings;
 use std::error::AnyError;
 use std::io;
@@ -52,7 +53,8 @@ struct Program {
 impl Handler for Program as ProgramHandler {
     fn line(&mut self, number: u64, line: &[u8], console: &mut Console) -> io::Result<()> {
         match read_house(&mut self.scratch, line) {
-            Ok(shape) => self.house.handle(number, self.scratch.event(shape), console),
+            Ok(shape) => self.house
+                .handle(number, self.scratch.event(shape), console),
             Err(error) => report(number, error.text(), console),
         }
     }

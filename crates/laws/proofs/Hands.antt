@@ -19,7 +19,7 @@ keep-gone i [] = refl
 keep-gone i (x ∷ xs) = go (keep-gone i xs) (eqb i (x .desk)) refl
   where
     go : keep (λ (h : Hold). eqb i (h .desk)) (keep (λ (h : Hold). not (eqb i (h .desk))) xs) ≡ [] → (b : Bool) → eqb i (x .desk) ≡ b →
-      keep (λ (h : Hold). eqb i (h .desk)) (cond (not b) (x ∷ keep (λ (h : Hold). not (eqb i (h .desk))) xs) (keep (λ (h : Hold). not (eqb i (h .desk))) xs)) ≡ []
+        keep (λ (h : Hold). eqb i (h .desk)) (cond (not b) (x ∷ keep (λ (h : Hold). not (eqb i (h .desk))) xs) (keep (λ (h : Hold). not (eqb i (h .desk))) xs)) ≡ []
     go ih true e = ih
     go ih false e = rw e ih
 
@@ -39,6 +39,7 @@ agree-keep f (h ∷ hs) a = go (agree-keep f hs) (f h)
   where
     parts : (every (fits h) hs ≡ true) × (agree hs ≡ true)
     parts = and-parts (every (fits h) hs) (agree hs) a
+
     go : (agree hs ≡ true → agree (keep f hs) ≡ true) → (b : Bool) → agree (cond b (h ∷ keep f hs) (keep f hs)) ≡ true
     go ih true = and-from (every (fits h) (keep f hs)) (agree (keep f hs)) (every-keep (fits h) f hs (parts .0)) (ih (parts .1))
     go ih false = ih (parts .1)
@@ -52,13 +53,16 @@ every-taken i n a s (k ∷ ks) sub b o = go (every-taken i n a s ks (λ x m. sub
   where
     h : Hold
     h = record { desk = i; name = n; alone = a }
+
     here : List·Memᴰ k (s .holds)
     here = sub k (List·Memᴰ·head refl)
+
     -- it is another's
     other : eqb i (k .desk) ≡ false → same n (k .name) ≡ true → List·Memᴰ k (others i n s)
     other ed en = keep-in (λ (x : Hold). not (eqb i (x .desk)) && same n (x .name)) (s .holds) k (and-from (not (eqb i (k .desk))) (same n (k .name)) (not-from-false (eqb i (k .desk)) ed) en) here
+
     go : every (fits h) (notIts i n ks) ≡ true → (d m l x : Bool) → eqb i (k .desk) ≡ d → same n (k .name) ≡ m → k .alone ≡ l → a ≡ x →
-      every (fits h) (cond (not (d && m)) (k ∷ notIts i n ks) (notIts i n ks)) ≡ true
+        every (fits h) (cond (not (d && m)) (k ∷ notIts i n ks) (notIts i n ks)) ≡ true
     go ih true true l x ed em el ex = ih
     go ih true false l x ed em el ex = rw em ih
     go ih false false l x ed em el ex = rw em ih
@@ -71,4 +75,4 @@ pub agree-taken : (i : ℕ) (n : Name) (a : Bool) (s : State) → agree (s .hold
 unfolding agree
 agree-taken i n a s g b o =
     and-from (every (fits (record { desk = i; name = n; alone = a })) (notIts i n (s .holds))) (agree (notIts i n (s .holds)))
-      (every-taken i n a s (s .holds) (λ k m. m) b o) (agree-keep (λ (h : Hold). not (eqb i (h .desk) && same n (h .name))) (s .holds) g)
+    (every-taken i n a s (s .holds) (λ k m. m) b o) (agree-keep (λ (h : Hold). not (eqb i (h .desk) && same n (h .name))) (s .holds) g)

@@ -23,7 +23,7 @@ find-put-other n x [] e = rw e
 find-put-other n x (y ∷ ys) e = go (find-put-other n x ys e) (less (x .name) (y .name)) (less (y .name) (x .name)) refl refl
   where
     go : find (isSheet n) (put x ys) ≡ find (isSheet n) ys → (a b : Bool) → less (x .name) (y .name) ≡ a → less (y .name) (x .name) ≡ b →
-      find (isSheet n) (cond a (x ∷ y ∷ ys) (cond b (y ∷ put x ys) (x ∷ ys))) ≡ cond (same n (y .name)) (y ∷ []) (find (isSheet n) ys)
+        find (isSheet n) (cond a (x ∷ y ∷ ys) (cond b (y ∷ put x ys) (x ∷ ys))) ≡ cond (same n (y .name)) (y ∷ []) (find (isSheet n) ys)
     go ih true b ea eb = rw e
     go ih false true ea eb = ap (cond (same n (y .name)) (y ∷ [])) ih
     go ih false false ea eb =
@@ -56,7 +56,6 @@ record Stays (s : State) (h : Hold) (t : State) : Type 0 where
   hold : List·Memᴰ h (t .holds)
 
 module _ (j : ℕ) (s : State) (h : Hold) (m : List·Memᴰ h (s .holds)) (d : eqb j (h .desk) ≡ false) where
-
   -- it is in the way of changes to its name
   others-has : (n : Name) → same n (h .name) ≡ true → List·Memᴰ h (others j n s)
   others-has n e = keep-in (λ (x : Hold). not (eqb j (x .desk)) && same n (x .name)) (s .holds) h (and-from (not (eqb j (h .desk))) (same n (h .name)) (not-from-false (eqb j (h .desk)) d) e) m
@@ -86,18 +85,20 @@ module _ (j : ℕ) (s : State) (h : Hold) (m : List·Memᴰ h (s .holds)) (d : e
 
   rename-stays : (n k : Name) (y : Sheet) → none (others j n s) ≡ true → none (others j k s) ≡ true → Stays s h (afterRename n k y s)
   rename-stays n k y e g = record {
-      sheet = find-put-other (h .name) (renamed k y) (without n (s .sheets)) (turned k g) ∙ find-without-other (h .name) n (s .sheets) (turned n e);
-      hold = let-go-other n e }
+    sheet = find-put-other (h .name) (renamed k y) (without n (s .sheets)) (turned k g) ∙ find-without-other (h .name) n (s .sheets) (turned n e);
+    hold = let-go-other n e;
+  }
 
   kept : (room : ℕ) → Kept (Stays s h) room j s
   kept room = record {
-      was = record { sheet = refl; hold = m };
-      puts = λ n bs a b c o w. put-stays n bs o;
-      patchesAt = λ n at bs y ys a b f g e o w. put-stays n _ o;
-      removesIt = remove-stays;
-      renamesIt = λ n k y ys a f o p e. rename-stays n k y o p;
-      takesIt = λ n a b o. record { sheet = refl; hold = List·Memᴰ·tail (not-its n) };
-      letsItGo = λ n. record { sheet = refl; hold = not-its n } }
+    was = record { sheet = refl; hold = m };
+    puts = λ n bs a b c o w. put-stays n bs o;
+    patchesAt = λ n at bs y ys a b f g e o w. put-stays n _ o;
+    removesIt = remove-stays;
+    renamesIt = λ n k y ys a f o p e. rename-stays n k y o p;
+    takesIt = λ n a b o. record { sheet = refl; hold = List·Memᴰ·tail (not-its n) };
+    letsItGo = λ n. record { sheet = refl; hold = not-its n };
+  }
 
   read-barred : (room f k : ℕ) → h .alone ≡ true → T (nameOk (h .name)) → T (leb k 1048576) → does room j (Read (h .name) f k) s .reply ≡ No inOthersHand
   unfolding does

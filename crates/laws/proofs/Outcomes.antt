@@ -40,12 +40,11 @@ abbrev pub heavy : (room : ℕ) → Name → Bytes → State → Bool
 heavy room n bs s = ltb room (weight (afterPut n bs s .sheets)) && ltb (weight (s .sheets)) (weight (afterPut n bs s .sheets))
 
 module _ (P : State → Type 0) where
-
   changes-leave : (room i : ℕ) (n : Name) (x : Expect) (bs : Bytes) (s : State) → P s → (none (others i n s) ≡ true → heavy room n bs s ≡ false → P (afterPut n bs s)) → P (changes room i n x bs s .state)
   changes-leave room i n x bs s p q = go (none (others i n s)) (asExpected x (editionOf (find (isSheet n) (s .sheets)))) (leb 4611686018427387904 (s .changes')) (heavy room n bs s) refl refl
     where
       go : (a b c d : Bool) → none (others i n s) ≡ a → heavy room n bs s ≡ d →
-        P ((cond (not a) (no 5 s) (cond (not b) (no 4 s) (cond c (no 8 s) (cond d (no 9 s) (record { reply = Edition (s .changes' + 1); state = afterPut n bs s }))))) .state)
+          P ((cond (not a) (no 5 s) (cond (not b) (no 4 s) (cond c (no 8 s) (cond d (no 9 s) (record { reply = Edition (s .changes' + 1); state = afterPut n bs s }))))) .state)
       go false b c d ea ed = p
       go true false c d ea ed = p
       go true true true d ea ed = p
@@ -82,7 +81,7 @@ module _ (P : State → Type 0) where
   renames-leave i n k (y ∷ ys) s p q = go (none (others i n s)) (none (others i k s)) (none (find (isSheet k) (s .sheets))) refl refl refl
     where
       go : (a b c : Bool) → none (others i n s) ≡ a → none (others i k s) ≡ b → none (find (isSheet k) (s .sheets)) ≡ c →
-        P ((cond (not a || not b) (no 5 s) (cond (not c) (no 3 s) (record { reply = Yes; state = afterRename n k y s }))) .state)
+          P ((cond (not a || not b) (no 5 s) (cond (not c) (no 3 s) (record { reply = Yes; state = afterRename n k y s }))) .state)
       go false b c ea eb ec = p
       go true false c ea eb ec = p
       go true true false ea eb ec = p
@@ -129,7 +128,7 @@ module _ (P : State → Type 0) where
     pub was : P s
     pub puts : (n : Name) (bs : Bytes) → nameOk n ≡ true → leb (length bs) 1048576 ≡ true → allBytes bs ≡ true → none (others i n s) ≡ true → heavy room n bs s ≡ false → P (afterPut n bs s)
     pub patchesAt : (n : Name) (at : ℕ) (bs : Bytes) (y : Sheet) (ys : List Sheet) → nameOk n ≡ true → allBytes bs ≡ true → find (isSheet n) (s .sheets) ≡ y ∷ ys → ltb (length (y .bytes)) at ≡ false → ltb 1048576 (at + length bs) ≡ false →
-      none (others i n s) ≡ true → heavy room n (patched at bs (y .bytes)) s ≡ false → P (afterPut n (patched at bs (y .bytes)) s)
+        none (others i n s) ≡ true → heavy room n (patched at bs (y .bytes)) s ≡ false → P (afterPut n (patched at bs (y .bytes)) s)
     pub removesIt : (n : Name) → none (others i n s) ≡ true → P (afterRemove n s)
     pub renamesIt : (n k : Name) (y : Sheet) (ys : List Sheet) → nameOk k ≡ true → find (isSheet n) (s .sheets) ≡ y ∷ ys → none (others i n s) ≡ true → none (others i k s) ≡ true → none (find (isSheet k) (s .sheets)) ≡ true → P (afterRename n k y s)
     pub takesIt : (n : Name) (a : Bool) → barred i n s ≡ false → (a ≡ true → none (others i n s) ≡ true) → P (afterTake i n a s)
@@ -140,10 +139,10 @@ module _ (P : State → Type 0) where
   call-leaves room i (Read n f m) s k = ranged (nameOk n && leb m 1048576) (cond (barred i n s) (no 5 s) (reads f m (find (isSheet n) (s .sheets)) s)) s (k .was) (λ e. read-leaves i f m n s (k .was))
   call-leaves room i (Put n bs x) s k =
       ranged (nameOk n && bytesOk bs) (changes room i n x bs s) s (k .was) (λ e. changes-leave room i n x bs s (k .was)
-        (k .puts n bs (and-parts (nameOk n) (bytesOk bs) e .0) (and-parts (leb (length bs) 1048576) (allBytes bs) (and-parts (nameOk n) (bytesOk bs) e .1) .0) (and-parts (leb (length bs) 1048576) (allBytes bs) (and-parts (nameOk n) (bytesOk bs) e .1) .1)))
+      (k .puts n bs (and-parts (nameOk n) (bytesOk bs) e .0) (and-parts (leb (length bs) 1048576) (allBytes bs) (and-parts (nameOk n) (bytesOk bs) e .1) .0) (and-parts (leb (length bs) 1048576) (allBytes bs) (and-parts (nameOk n) (bytesOk bs) e .1) .1)))
   call-leaves room i (Patch n at bs x) s k =
       ranged (nameOk n && bytesOk bs) (patches room i n at bs x (find (isSheet n) (s .sheets)) s) s (k .was) (λ e. patches-leave room i n at bs x (find (isSheet n) (s .sheets)) s (k .was)
-        (λ y ys. k .patchesAt n at bs y ys (and-parts (nameOk n) (bytesOk bs) e .0) (and-parts (leb (length bs) 1048576) (allBytes bs) (and-parts (nameOk n) (bytesOk bs) e .1) .1)))
+      (λ y ys. k .patchesAt n at bs y ys (and-parts (nameOk n) (bytesOk bs) e .0) (and-parts (leb (length bs) 1048576) (allBytes bs) (and-parts (nameOk n) (bytesOk bs) e .1) .1)))
   call-leaves room i (Remove n x) s k = ranged (nameOk n) (removes i n x (find (isSheet n) (s .sheets)) s) s (k .was) (λ e. removes-leave i n x (find (isSheet n) (s .sheets)) s (k .was) (k .removesIt n))
   call-leaves room i (Rename n new) s k =
       ranged (nameOk n && nameOk new) (renames i n new (find (isSheet n) (s .sheets)) s) s (k .was) (λ e. renames-leave i n new (find (isSheet n) (s .sheets)) s (k .was) (λ y ys. k .renamesIt n new y ys (and-parts (nameOk n) (nameOk new) e .1)))

@@ -20,7 +20,7 @@ find-put x [] = let a = same-self (x .name) in grind arith
 find-put x (y ∷ ys) = go (find-put x ys) (less (x .name) (y .name)) (less (y .name) (x .name)) refl refl
   where
     go : find (isSheet (x .name)) (put x ys) ≡ x ∷ [] → (a b : Bool) → less (x .name) (y .name) ≡ a → less (y .name) (x .name) ≡ b →
-      find (isSheet (x .name)) (cond a (x ∷ y ∷ ys) (cond b (y ∷ put x ys) (x ∷ ys))) ≡ x ∷ []
+        find (isSheet (x .name)) (cond a (x ∷ y ∷ ys) (cond b (y ∷ put x ys) (x ∷ ys))) ≡ x ∷ []
     go ih true b ea eb = rw (same-self (x .name)) refl
     go ih false true ea eb = rw (ea, eb) ih
     go ih false false ea eb = rw (same-self (x .name)) refl
@@ -33,10 +33,12 @@ put-then-read room s run i f m e n bs x le h =
     outcome : (a a' b c d r : Bool) → Out
     outcome a a' b c d r =
         cond (a && a') (cond (not b) (no 5 s) (cond (not c) (no 4 s) (cond d (no 8 s) (cond r (no 9 s) (record { reply = Edition (s .changes' + 1); state = afterPut n bs s }))))) (no 1 s)
+
     never : (k : ℕ) → No k ≡ Edition e → ⊥
     never k p = let z : _≡_ {A = ℕ} 0 1 = cc in omega arith
+
     go : (a a' b c d r : Bool) → nameOk n ≡ a → none (others i n s) ≡ b → outcome a a' b c d r .reply ≡ Edition e →
-      does room i (Read n f m) (outcome a a' b c d r .state) .reply ≡ Got e (length bs) (firstOf m (dropOf f bs))
+        does room i (Read n f m) (outcome a a' b c d r .state) .reply ≡ Got e (length bs) (firstOf m (dropOf f bs))
     go false a' b c d r ea eb q = absurd (never 1 q)
     go true false b c d r ea eb q = absurd (never 1 q)
     go true true false c d r ea eb q = absurd (never 5 q)

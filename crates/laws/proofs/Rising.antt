@@ -26,10 +26,12 @@ rising-behind y x (z ∷ zs) l r = go (λ l' r'. rising-behind z x zs l' r') (le
   where
     rest : rising (z ∷ zs) ≡ true
     rest = and-parts (less (y .name) (z .name)) (rising (z ∷ zs)) r .1
+
     first : less (y .name) (z .name) ≡ true
     first = and-parts (less (y .name) (z .name)) (rising (z ∷ zs)) r .0
+
     go : (less (z .name) (x .name) ≡ true → rising (z ∷ zs) ≡ true → rising (z ∷ put x zs) ≡ true) → (a b : Bool) → less (x .name) (z .name) ≡ a → less (z .name) (x .name) ≡ b →
-      rising (y ∷ cond a (x ∷ z ∷ zs) (cond b (z ∷ put x zs) (x ∷ zs))) ≡ true
+        rising (y ∷ cond a (x ∷ z ∷ zs) (cond b (z ∷ put x zs) (x ∷ zs))) ≡ true
     go ih true b ea eb = rw (l, ea) rest
     go ih false true ea eb = rw first (ih eb rest)
     go ih false false ea eb = rw l (rising-same x z zs (less-same (z .name) (x .name) eb ea) rest)
@@ -60,6 +62,7 @@ rising-keep-behind f y (z ∷ zs) r = go (rising-keep-behind f z zs) (rising-kee
   where
     parts : (less (y .name) (z .name) ≡ true) × (rising (z ∷ zs) ≡ true)
     parts = and-parts (less (y .name) (z .name)) (rising (z ∷ zs)) r
+
     go : (rising (z ∷ zs) ≡ true → rising (z ∷ keep f zs) ≡ true) → (rising (y ∷ zs) ≡ true → rising (y ∷ keep f zs) ≡ true) → (b : Bool) → rising (y ∷ cond b (z ∷ keep f zs) (keep f zs)) ≡ true
     go ih ih' true = and-from (less (y .name) (z .name)) (rising (z ∷ keep f zs)) (parts .0) (ih (parts .1))
     go ih ih' false = ih' (rising-skip y z zs r)
@@ -87,6 +90,7 @@ every-put p x (y ∷ ys) t e = go (every-put p x ys t) (less (x .name) (y .name)
   where
     parts : (p y ≡ true) × (every p ys ≡ true)
     parts = and-parts (p y) (every p ys) e
+
     go : (every p ys ≡ true → every p (put x ys) ≡ true) → (a b : Bool) → every p (cond a (x ∷ y ∷ ys) (cond b (y ∷ put x ys) (x ∷ ys))) ≡ true
     go ih true b = and-from (p x) (p y && every p ys) t e
     go ih false true = and-from (p y) (every p (put x ys)) (parts .0) (ih (parts .1))
@@ -99,6 +103,7 @@ every-found p n (x ∷ xs) y ys e q = go (λ q'. every-found p n xs y ys (parts 
   where
     parts : (p x ≡ true) × (every p xs ≡ true)
     parts = and-parts (p x) (every p xs) e
+
     go : (find (isSheet n) xs ≡ y ∷ ys → p y ≡ true) → (b : Bool) → cond b (x ∷ []) (find (isSheet n) xs) ≡ y ∷ ys → p y ≡ true
     go ih true q' = let z : x ≡ y = cc in ap p (sym z) ∙ parts .0
     go ih false q' = ih q'
@@ -131,7 +136,7 @@ weight-found n [] y ys q = absurd (let z : _≡_ {A = ℕ} 0 1 = cc in omega ari
 weight-found n (x ∷ xs) y ys q = go (λ q'. weight-found n xs y ys q') (isSheet n x) q
   where
     go : (find (isSheet n) xs ≡ y ∷ ys → weight (without n xs) + (512 + length (y .bytes)) ≤ weight xs) → (b : Bool) → cond b (x ∷ []) (find (isSheet n) xs) ≡ y ∷ ys →
-      weight (cond (not b) (x ∷ without n xs) (without n xs)) + (512 + length (y .bytes)) ≤ 512 + length (x .bytes) + weight xs
+        weight (cond (not b) (x ∷ without n xs) (without n xs)) + (512 + length (y .bytes)) ≤ 512 + length (x .bytes) + weight xs
     go ih true q' =
         let z : x ≡ y = cc in
         let l : length (x .bytes) ≡ length (y .bytes) = ap (λ (s : Sheet). length (s .bytes)) z in

@@ -85,10 +85,11 @@ not-heavy room w v h e = grind (arith, tells)
 
 after-put : (room : ℕ) (n : Name) (bs : Bytes) (s : State) → TidyState room s → nameOk n ≡ true → leb (length bs) 1048576 ≡ true → allBytes bs ≡ true → heavy room n bs s ≡ false → TidyState room (afterPut n bs s)
 after-put room n bs s t a b c h = record {
-    byName = rising-put (putOne n bs s) (s .sheets) (t .byName);
-    agreed = t .agreed;
-    ranged = every-put sound (putOne n bs s) (s .sheets) (sound-put n bs s a b c) (t .ranged);
-    light = not-heavy room (weight (s .sheets)) (weight (put (putOne n bs s) (s .sheets))) (t .light) h }
+  byName = rising-put (putOne n bs s) (s .sheets) (t .byName);
+  agreed = t .agreed;
+  ranged = every-put sound (putOne n bs s) (s .sheets) (sound-put n bs s a b c) (t .ranged);
+  light = not-heavy room (weight (s .sheets)) (weight (put (putOne n bs s) (s .sheets))) (t .light) h;
+}
 
 after-patch : (room : ℕ) (n : Name) (at : ℕ) (bs : Bytes) (y : Sheet) (ys : List Sheet) (s : State) → TidyState room s → nameOk n ≡ true → allBytes bs ≡ true → find (isSheet n) (s .sheets) ≡ y ∷ ys →
     ltb 1048576 (at + length bs) ≡ false → heavy room n (patched at bs (y .bytes)) s ≡ false → TidyState room (afterPut n (patched at bs (y .bytes)) s)
@@ -97,32 +98,35 @@ after-patch room n at bs y ys s t a b f g h =
     let o : leb (length (y .bytes)) 1048576 ≡ true = grind (arith, tells) in
     let p : allBytes (y .bytes) ≡ true = grind (arith, tells) in
     after-put room n (patched at bs (y .bytes)) s t a
-      (le-leb (length (patched at bs (y .bytes))) 1048576 (length-patched at bs (y .bytes) (leb-true (length (y .bytes)) 1048576 o) (ltb-false 1048576 (at + length bs) g)))
-      (bytes-patched at bs (y .bytes) b p) h
+    (le-leb (length (patched at bs (y .bytes))) 1048576 (length-patched at bs (y .bytes) (leb-true (length (y .bytes)) 1048576 o) (ltb-false 1048576 (at + length bs) g)))
+    (bytes-patched at bs (y .bytes) b p) h
 
 after-remove : (room : ℕ) (n : Name) (s : State) → TidyState room s → TidyState room (afterRemove n s)
 after-remove room n s t = record {
-    byName = rising-keep (λ (x : Sheet). not (isSheet n x)) (s .sheets) (t .byName);
-    agreed = agree-keep (λ (h : Hold). not (same n (h .name))) (s .holds) (t .agreed);
-    ranged = every-keep sound (λ (x : Sheet). not (isSheet n x)) (s .sheets) (t .ranged);
-    light = let a = weight-keep (λ (x : Sheet). not (isSheet n x)) (s .sheets) in let b = t .light in omega arith }
+  byName = rising-keep (λ (x : Sheet). not (isSheet n x)) (s .sheets) (t .byName);
+  agreed = agree-keep (λ (h : Hold). not (same n (h .name))) (s .holds) (t .agreed);
+  ranged = every-keep sound (λ (x : Sheet). not (isSheet n x)) (s .sheets) (t .ranged);
+  light = let a = weight-keep (λ (x : Sheet). not (isSheet n x)) (s .sheets) in let b = t .light in omega arith;
+}
 
 after-rename : (room : ℕ) (n k : Name) (y : Sheet) (ys : List Sheet) (s : State) → TidyState room s → nameOk k ≡ true → find (isSheet n) (s .sheets) ≡ y ∷ ys → TidyState room (afterRename n k y s)
 after-rename room n k y ys s t a f = record {
-    byName = rising-put (renamed k y) (without n (s .sheets)) (rising-keep (λ (x : Sheet). not (isSheet n x)) (s .sheets) (t .byName));
-    agreed = agree-keep (λ (h : Hold). not (same n (h .name))) (s .holds) (t .agreed);
-    ranged = every-put sound (renamed k y) (without n (s .sheets)) (let w = every-found sound n (s .sheets) y ys (t .ranged) f in grind (arith, tells)) (every-keep sound (λ (x : Sheet). not (isSheet n x)) (s .sheets) (t .ranged));
-    light = let p = weight-put (renamed k y) (without n (s .sheets)) in let q = weight-found n (s .sheets) y ys f in let b = t .light in omega arith }
+  byName = rising-put (renamed k y) (without n (s .sheets)) (rising-keep (λ (x : Sheet). not (isSheet n x)) (s .sheets) (t .byName));
+  agreed = agree-keep (λ (h : Hold). not (same n (h .name))) (s .holds) (t .agreed);
+  ranged = every-put sound (renamed k y) (without n (s .sheets)) (let w = every-found sound n (s .sheets) y ys (t .ranged) f in grind (arith, tells)) (every-keep sound (λ (x : Sheet). not (isSheet n x)) (s .sheets) (t .ranged));
+  light = let p = weight-put (renamed k y) (without n (s .sheets)) in let q = weight-found n (s .sheets) y ys f in let b = t .light in omega arith;
+}
 
 kept : (room i : ℕ) (s : State) → TidyState room s → Kept (TidyState room) room i s
 kept room i s t = record {
-    was = t;
-    puts = λ n bs a b c o h. after-put room n bs s t a b c h;
-    patchesAt = λ n at bs y ys a b f g e o h. after-patch room n at bs y ys s t a b f e h;
-    removesIt = λ n o. after-remove room n s t;
-    renamesIt = λ n k y ys a f o p e. after-rename room n k y ys s t a f;
-    takesIt = λ n a b o. record { byName = t .byName; agreed = agree-taken i n a s (t .agreed) b o; ranged = t .ranged; light = t .light };
-    letsItGo = λ n. record { byName = t .byName; agreed = agree-keep (λ (h : Hold). not (eqb i (h .desk) && same n (h .name))) (s .holds) (t .agreed); ranged = t .ranged; light = t .light } }
+  was = t;
+  puts = λ n bs a b c o h. after-put room n bs s t a b c h;
+  patchesAt = λ n at bs y ys a b f g e o h. after-patch room n at bs y ys s t a b f e h;
+  removesIt = λ n o. after-remove room n s t;
+  renamesIt = λ n k y ys a f o p e. after-rename room n k y ys s t a f;
+  takesIt = λ n a b o. record { byName = t .byName; agreed = agree-taken i n a s (t .agreed) b o; ranged = t .ranged; light = t .light };
+  letsItGo = λ n. record { byName = t .byName; agreed = agree-keep (λ (h : Hold). not (eqb i (h .desk) && same n (h .name))) (s .holds) (t .agreed); ranged = t .ranged; light = t .light };
+}
 
 pub tidy-run : (room : ℕ) (s : State) → Run room s → TidyState room s
 unfolding rising agree every weight

@@ -32,9 +32,7 @@ pub enum Event<'a> {
 pub(crate) fn has_room(s: &Scratch, size: usize) -> bool
     ensures { λ r. ⌜ Decides r (Roomy (now (s .entry)) size) ⌝ }
 {
-    s.name.capacity() >= LONGEST
-        && s.new.capacity() >= LONGEST
-        && s.bytes.capacity() >= size
+    s.name.capacity() >= LONGEST && s.new.capacity() >= LONGEST && s.bytes.capacity() >= size
 }
 
 impl Scratch {

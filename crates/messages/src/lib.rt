@@ -3,10 +3,12 @@ mod bytes;
 mod message;
 mod put;
 mod reader;
+mod seal;
 mod sum;
 mod writer;
 
 pub use message::Message;
 pub use reader::read_message;
+pub use seal::seal_response;
 pub use writer::seal_request;
 pub use writer::write_message;

@@ -37,7 +37,10 @@ fn run(rt: &LibcRuntime) -> Result<(), AnyError> {
         return Err("usage: rehearse < SCRIPT".into());
     }
     let scratch = Scratch::new(rt.alloc(), LONGEST_LINE)?;
-    let mut program = Program { scratch, play: Play::new() };
+    let mut program = Program {
+        scratch,
+        play: Play::new(),
+    };
     handle_lines(rt, &mut program)?;
     let mut console = Console::reserve(rt)?;
     program.play.end(&mut console)?;

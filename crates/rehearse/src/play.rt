@@ -5,9 +5,9 @@ use console::Console;
 use console::report;
 use ids::CallNumber;
 use lines::event::read_desk;
-use printing::told::write_answer;
 use lines::shape::Scratch;
 use lines::shape::Shape;
+use printing::told::write_answer;
 use script::step::Step;
 use std::io;
 use std::io::Write;
@@ -29,11 +29,17 @@ pub struct Play {
     seats: [Seat; 8],
 }
 
-const EMPTY: Seat = Seat { there: false, waiting: 0 };
+const EMPTY: Seat = Seat {
+    there: false,
+    waiting: 0,
+};
 
 impl Play {
     pub fn new() -> Play {
-        Play { begun: false, seats: [EMPTY; 8] }
+        Play {
+            begun: false,
+            seats: [EMPTY; 8],
+        }
     }
 
     // Says what became of the script, and makes ready for the next.
@@ -92,7 +98,13 @@ impl Play {
         console.say()
     }
 
-    fn call(&mut self, number: u64, desk: u8, shape: Shape, console: &mut Console) -> io::Result<()> {
+    fn call(
+        &mut self,
+        number: u64,
+        desk: u8,
+        shape: Shape,
+        console: &mut Console,
+    ) -> io::Result<()> {
         let Shape::Asked(call, _) = shape else {
             return report(number, "it is no call", console);
         };
@@ -106,7 +118,13 @@ impl Play {
     }
 
     // Plays one step. Time, beats, darkness and messages have nothing to act on yet.
-    pub fn step(&mut self, number: u64, step: Step<'_>, scratch: &mut Scratch, console: &mut Console) -> io::Result<()> {
+    pub fn step(
+        &mut self,
+        number: u64,
+        step: Step<'_>,
+        scratch: &mut Scratch,
+        console: &mut Console,
+    ) -> io::Result<()> {
         self.begun = true;
         match step {
             Step::Script { name } => self.script(name, console)?,

@@ -17,19 +17,19 @@ use Rattle.settings.specs.declared.Wrong.the-variants.{Count, Desk, Retry}
 abbrev pub houseGiven : List ℕ → Result HouseSettings Wrong
 houseGiven xs =
     cond (eqb (length xs) 0) (Ok (record { bytes = 536870912 }))
-      (cond (eqb (length xs) 1) (Ok (record { bytes = getD xs 0 0 })) (Err Count))
+    (cond (eqb (length xs) 1) (Ok (record { bytes = getD xs 0 0 })) (Err Count))
 
 abbrev pub deskGiven : (number nonce bytes retry : ℕ) → Result DeskSettings Wrong
 deskGiven n c b r =
     cond (ltb n 1 || ltb 63 n) (Err Desk)
-      (cond (ltb r 1 || ltb 50000 r) (Err Retry) (Ok (record { desk = record { 0 = n }; nonce = record { 0 = c }; bytes = b; retry = r })))
+    (cond (ltb r 1 || ltb 50000 r) (Err Retry) (Ok (record { desk = record { 0 = n }; nonce = record { 0 = c }; bytes = b; retry = r })))
 
 -- desk N C [BYTES [RETRY]]
 abbrev pub countGiven : List ℕ → Result DeskSettings Wrong
 countGiven xs =
     cond (eqb (length xs) 2) (deskGiven (getD xs 0 0) (getD xs 1 0) 16777216 20300)
-      (cond (eqb (length xs) 3) (deskGiven (getD xs 0 0) (getD xs 1 0) (getD xs 2 0) 20300)
-        (cond (eqb (length xs) 4) (deskGiven (getD xs 0 0) (getD xs 1 0) (getD xs 2 0) (getD xs 3 0)) (Err Count)))
+    (cond (eqb (length xs) 3) (deskGiven (getD xs 0 0) (getD xs 1 0) (getD xs 2 0) 20300)
+    (cond (eqb (length xs) 4) (deskGiven (getD xs 0 0) (getD xs 1 0) (getD xs 2 0) (getD xs 3 0)) (Err Count)))
 
 -- what is said of wrong arguments
 abbrev pub wrongText : Wrong → List ℕ

@@ -59,7 +59,12 @@ fn desk_within(number: u64, nonce: u64, bytes: u64, retry: u64) -> Result<DeskSe
     if retry < 1 || retry > LONGEST_RETRY {
         return Err(Wrong::Retry);
     }
-    Ok(DeskSettings { desk: DeskId(number as u8), nonce: Nonce(nonce), bytes, retry })
+    Ok(DeskSettings {
+        desk: DeskId(number as u8),
+        nonce: Nonce(nonce),
+        bytes,
+        retry,
+    })
 }
 
 pub fn desk_settings(args: &[u64]) -> Result<DeskSettings, Wrong>

@@ -1,0 +1,9 @@
+pub mod Agree
+pub mod Asked
+pub mod Said
+pub mod Written
+pub mod Heard
+pub mod Answer
+pub mod Ticked
+pub mod Called
+pub mod Turned

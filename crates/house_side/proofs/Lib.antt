@@ -1,0 +1,5 @@
+pub mod Model
+pub mod Ticks
+pub mod Sealed
+pub mod Heard
+pub mod Bytewise

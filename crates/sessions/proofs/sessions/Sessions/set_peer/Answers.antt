@@ -1,0 +1,6 @@
+use borrow.Author.Needs.{needs}
+use lib.Seq.{map-set}
+use Rattle.sessions.proofs.sessions.Sessions.set_peer.Needs as need
+
+pub returns : need.returns
+returns c = search (needs, map-set)

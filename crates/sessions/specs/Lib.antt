@@ -1,0 +1,5 @@
+pub mod Desks
+pub mod Peers
+pub mod View
+pub mod Known
+pub mod Views
