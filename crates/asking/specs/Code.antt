@@ -12,7 +12,7 @@ use Rattle.promise.specs.Sheets.{Name, Expect, Call, Put, Patch}
 use Rattle.promise.specs.Machine.{Machine, sheets}
 use Rattle.promise.specs.Desks.{Comes, From, Ask, Beat, Does, To, Tell, Lapse, Code}
 use Rattle.promise.specs.Promise.{Whole}
-use Rattle.codec.specs.Messages.{Msg, encodeMsg, decodeMsg, ReadsBack}
+use Rattle.codec.specs.Messages.{Msg, encodeMsg, decodeMsg}
 use Rattle.asking.specs.House.{House, HouseTurn, houseBegins, houseGoesOn, houseFrom, houseTick, nothing}
 use Rattle.asking.specs.Desk.{Desk, DeskTurn, deskBegins, deskFrom, deskCalled, deskTick}
 
@@ -103,10 +103,10 @@ askingBytes m z = record {
 
 -- THE THEOREM
 
--- Over bytes the promise is kept of this machine with every retransmission time up to the longest, if messages are read back as they were
--- written. It is proved of every lawful machine; a contract can speak of one family only.
+-- Over bytes the promise is kept of this machine with every retransmission time up to the longest. It is proved of every lawful machine; a
+-- contract can speak of one family only.
 abbrev pub KeepsPromise : (longest : ℕ) → (m : Machine) → Type 0
-KeepsPromise r m = ReadsBack → (z : Settings) → z .retry ≤ r → Whole m (askingBytes m z)
+KeepsPromise r m = (z : Settings) → z .retry ≤ r → Whole m (askingBytes m z)
 
 -- for the table of sheets, however much there is room for, and whichever calls are built, puts and patches among them
 abbrev pub SheetsKeepPromise : (longest : ℕ) → Type 0
