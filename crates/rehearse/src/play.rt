@@ -125,7 +125,6 @@ impl Play {
         scratch: &mut Scratch,
         console: &mut Console,
     ) -> io::Result<()> {
-        self.begun = true;
         match step {
             Step::Script { name } => self.script(name, console)?,
             Step::Desks { count } => self.desks(count),
@@ -137,6 +136,7 @@ impl Play {
             },
             _ => {}
         }
+        self.begun = true;
         Ok(())
     }
 }
