@@ -1,5 +1,7 @@
 // Asking so that each call is done once. What house and desks do at each thing that comes is defined in specs/ (House, Desk, Code), for
 // every state; that it keeps the promise, and with how few messages, stands on the contracts below.
+#![tactic(auto)]
+
 ghost use Rattle.std.specs.Prelude.{◌≤◌};
 ghost use Rattle.asking.specs.Code.{SheetsKeepPromise};
 ghost use Rattle.asking.specs.Sparing.{AnsweredBeforeDue, SecondWelcomeSendsNothing, SheetsSendOne, CallSendsOne, AnswerSendsNone, OneForEachCall};

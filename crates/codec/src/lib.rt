@@ -1,4 +1,6 @@
 // Calls, answers and messages as bytes: nothing else knows a byte layout.
+#![tactic(auto)]
+
 pub mod answer;
 mod answer_reader;
 mod answer_writer;

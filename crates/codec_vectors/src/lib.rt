@@ -1,4 +1,6 @@
 // Calls, answers and frames worked out by hand from the layouts, byte for byte. Only tests live here.
+#![tactic(auto)]
+
 #[cfg(test)]
 mod tests {
     use codec::answer::{Answer, Refusal};

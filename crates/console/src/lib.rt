@@ -1,5 +1,7 @@
 // A program that handles the lines of standard input one after the other and prints lines. Nothing here is more than safe and sure to end
 // with its input: no contract can say what a program reads or prints.
+#![tactic(auto)]
+
 ghost use Rattle.std.specs.Prelude.{◌≡◌, [], IfOk, OnOk};
 
 use anyhow::anyhow;

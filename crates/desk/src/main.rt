@@ -1,4 +1,6 @@
 // A desk as a program: lines in, lines out.
+#![tactic(auto)]
+
 use codec::answer::{Answer, Refusal};
 use console::{Console, Handler, LONGEST_LINE, handle_lines, number_arguments, report};
 use ids::{CallNumber, Clock};

@@ -1,4 +1,6 @@
 // A desk: what it knows, and what it does at each thing that comes.
+#![tactic(auto)]
+
 mod asking;
 mod asks;
 mod begin;

@@ -1,4 +1,6 @@
 // The house as a program: lines in, lines out.
+#![tactic(auto)]
+
 use console::{Console, Handler, LONGEST_LINE, handle_lines, number_arguments, report};
 use ids::Clock;
 use lines::event::read_house;

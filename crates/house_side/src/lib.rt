@@ -1,4 +1,6 @@
 // The house: what it does at each thing that comes.
+#![tactic(auto)]
+
 pub mod event;
 pub mod house;
 mod lapses;

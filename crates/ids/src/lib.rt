@@ -1,4 +1,5 @@
 // Numbers that a type keeps apart.
+#![tactic(auto)]
 
 // A desk, 1 to 63; 0 is the house.
 #[derive(Clone, Copy, PartialEq, Eq)]

@@ -1,4 +1,6 @@
 // Examples of lines, read and printed.
+#![tactic(auto)]
+
 #[cfg(test)]
 mod tests {
     use codec::answer::{Answer, Refusal};

@@ -1,4 +1,6 @@
 // The lines that house and desks read.
+#![tactic(auto)]
+
 pub(crate) mod call;
 pub mod error;
 pub mod event;

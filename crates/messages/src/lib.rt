@@ -1,4 +1,6 @@
 // What house and desks say to each other, as bytes, with a sum by which noise is told from messages.
+#![tactic(auto)]
+
 mod bytes;
 mod message;
 mod put;

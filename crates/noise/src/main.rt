@@ -1,4 +1,6 @@
 // Flips two or three bits of real messages, chosen by chance from a fixed seed, and counts how many are still read as messages.
+#![tactic(auto)]
+
 use ids::*;
 use messages::{Message, read_message, write_message};
 use std::alloc::{AllocError, Global};

@@ -1,4 +1,6 @@
 // Plays scripts with a house and up to eight desks in memory.
+#![tactic(auto)]
+
 mod play;
 
 use anyhow::anyhow;

@@ -1,4 +1,6 @@
 // What the programs are told on their command line, out of the numbers that stand there.
+#![tactic(auto)]
+
 ghost use Rattle.std.specs.Prelude.{◌≡◌};
 ghost use Rattle.settings.specs.Given.{house_given, desk_given, count_given, wrong_text};
 

@@ -1,4 +1,6 @@
 // The table of sheets, in memory that is lent once: what each call answers and leaves.
+#![tactic(auto)]
+
 mod bytes;
 mod compact;
 mod heads;

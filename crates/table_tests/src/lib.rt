@@ -1,4 +1,6 @@
 // Tests of the table, apart from it, since tests prove their whole crate again.
+#![tactic(auto)]
+
 #[cfg(test)]
 mod tests {
     use codec::answer::Refusal;

@@ -1,4 +1,6 @@
 // The words of a line: decimal numbers, bytes in hexadecimal, names, and the words themselves between single spaces.
+#![tactic(auto)]
+
 pub mod decimal;
 pub mod hex;
 pub mod name;
