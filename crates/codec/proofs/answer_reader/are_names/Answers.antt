@@ -16,8 +16,8 @@ returns-in-default c =
 pub returns : goal.returns
 returns c =
     let z : 0 ≡ c.args.count - c.loop-i.i = omega arith in
-    let e : c.is-empty.result ≡ are_names c.args.count c.args.b.now
-    = c.is-empty.ensures ∙ sym (names_none c.loop-i.rest.now) ∙ ap (λ k. are_names k c.loop-i.rest.now) z ∙ c.loop-i.invariant in
+    let e : c.is_empty.result ≡ are_names c.args.count c.args.b.now
+    = c.is_empty.ensures ∙ sym (names_none c.loop-i.rest.now) ∙ ap (λ k. are_names k c.loop-i.rest.now) z ∙ c.loop-i.invariant in
     let s : (i : ℕ) → get_or c.args.b.now i 0 < 256 = λ i. omega (arith, c.type-inv.b i) in
     let w = names_whole c.args.count c.args.b.now s in
     record { value = e; written = λ t. (w (sym e ∙ t)).0; count = λ t. (w (sym e ∙ t)).1; bound = λ t. omega (arith, (w (sym e ∙ t)).2) }

@@ -11,4 +11,4 @@ returns-in-default-kind-of c = by_kind _ _ _ (sym c.in-Some.ensures) ∙ unknown
 
 pub returns : goal.returns
 returns c =
-    by_kind _ _ _ (sym c.in-Some.ensures) ∙ ap (λ k. call_in k c.in-Some.body.now) (sym c.in-Some-kind-of.ensures)
+    by_kind _ _ _ (sym c.in-Some.ensures) ∙ ap (λ k. call_in k c.in-Some.body.now) (sym c.in-Some-kind_of.ensures)

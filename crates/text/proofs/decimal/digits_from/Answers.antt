@@ -12,9 +12,9 @@ returns-in-err-n c =
 
 pub loop-b-preserved : goal.loop-b-preserved
 loop-b-preserved c = (
-  decimal_more c.args.most c.loop-b.n c.in-ok-n.n c.loop-b.b-index c.args.w.now _ (omega arith) c.loop-b.invariant.0
-      (sym c.digit-after.ensures.value ∙ c.in-ok-n.was),
-  c.in-ok-n.ensures.bound,
+  decimal_more c.args.most c.loop-b.n c.in_ok-n.n c.loop-b.b-index c.args.w.now _ (omega arith) c.loop-b.invariant.0
+      (sym c.digit_after.ensures.value ∙ c.in_ok-n.was),
+  c.in_ok-n.ensures.bound,
 )
 
 pub returns : goal.returns

@@ -22,20 +22,20 @@ returns-in-Malformed c =
 
 pub loop-b-preserved : goal.loop-b-preserved
 loop-b-preserved c =
-    elim c.match-name-step.branch [
+    elim c.match-name_step.branch [
       | in-Byte+else-len-ge-LONGEST w ↦
-          let l : vec_len c.match-name-step.out ≡ vec_len c.loop-b.out + 1 = ap vec_len w.out-is ∙ w.push-reserved.ensures.len in (
+          let l : vec_len c.match-name_step.out ≡ vec_len c.loop-b.out + 1 = ap vec_len w.out-is ∙ w.push_reserved.ensures.len in (
             name_add (vec_items c.loop-b.out) _ c.loop-b.pending (255 - vec_len c.loop-b.out) c.loop-b.b-index c.args.w.now c.loop-b.invariant.0
-                w.in-Byte.byte c.match-name-step.pending (vec_items c.match-name-step.out) (255 - vec_len c.match-name-step.out)
-                (omega arith) (sym w.in-Byte.ensures.value) (omega arith) (ap vec_items w.out-is ∙ w.push-reserved.ensures.items) w.pending-is (omega arith),
+                w.in-Byte.byte c.match-name_step.pending (vec_items c.match-name_step.out) (255 - vec_len c.match-name_step.out)
+                (omega arith) (sym w.in-Byte.ensures.value) (omega arith) (ap vec_items w.out-is ∙ w.push_reserved.ensures.items) w.pending-is (omega arith),
             omega arith,
-            ap vec_capacity w.out-is ∙ (w.push-reserved.ensures.capacity ∙ c.loop-b.invariant.2),
+            ap vec_capacity w.out-is ∙ (w.push_reserved.ensures.capacity ∙ c.loop-b.invariant.2),
             subst Sound (sym w.pending-is) tt,
           )
       | in-Wait w ↦
-          let l : vec_len c.match-name-step.out ≡ vec_len c.loop-b.out = ap vec_len w.out-is in (
+          let l : vec_len c.match-name_step.out ≡ vec_len c.loop-b.out = ap vec_len w.out-is in (
             name_on (vec_items c.loop-b.out) _ c.loop-b.pending (255 - vec_len c.loop-b.out) c.loop-b.b-index c.args.w.now c.loop-b.invariant.0
-                w.in-Wait.next c.match-name-step.pending (vec_items c.match-name-step.out) (255 - vec_len c.match-name-step.out)
+                w.in-Wait.next c.match-name_step.pending (vec_items c.match-name_step.out) (255 - vec_len c.match-name_step.out)
                 (omega arith) (sym w.in-Wait.ensures.value) (ap vec_items w.out-is) w.pending-is (omega arith),
             omega arith,
             ap vec_capacity w.out-is ∙ c.loop-b.invariant.2,
