@@ -7,9 +7,9 @@ use Rattle.codec.proofs.answer_reader.are_names.Goals as goal
 pub loop-i-preserved : goal.loop-i-preserved
 loop-i-preserved c = names_step _ _ _ _ _ c.loop-i-test.true (sym c.in-Some.ensures) ∙ c.loop-i.invariant
 
-pub returns-in-default : goal.returns-in-default
-returns-in-default c =
-    let z : false ≡ are_names c.args.count c.args.b.now = names_stop _ _ _ c.loop-i-test.true (sym c.in-default.ensures) ∙ c.loop-i.invariant in
+pub returns-in_default : goal.returns-in_default
+returns-in_default c =
+    let z : false ≡ are_names c.args.count c.args.b.now = names_stop _ _ _ c.loop-i-test.true (sym c.in_default.ensures) ∙ c.loop-i.invariant in
     let not : false ≡ true → ⊥ = λ e. (let o : ◌≡◌ {A = ℕ} 0 1 = cc in omega arith) in
     record { value = z; written = λ e. absurd (not e); count = λ e. absurd (not e); bound = λ e. absurd (not e) }
 
@@ -18,6 +18,6 @@ returns c =
     let z : 0 ≡ c.args.count - c.loop-i.i = omega arith in
     let e : c.is_empty.result ≡ are_names c.args.count c.args.b.now
     = c.is_empty.ensures ∙ sym (names_none c.loop-i.rest.now) ∙ ap (λ k. are_names k c.loop-i.rest.now) z ∙ c.loop-i.invariant in
-    let s : (i : ℕ) → get_or c.args.b.now i 0 < 256 = λ i. omega (arith, c.type-inv.b i) in
+    let s : (i : ℕ) → get_or c.args.b.now i 0 < 256 = λ i. omega (arith, c.type_inv.b i) in
     let w = names_whole c.args.count c.args.b.now s in
     record { value = e; written = λ t. (w (sym e ∙ t)).0; count = λ t. (w (sym e ∙ t)).1; bound = λ t. omega (arith, (w (sym e ∙ t)).2) }

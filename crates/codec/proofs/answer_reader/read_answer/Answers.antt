@@ -4,9 +4,9 @@ use Rattle.codec.proofs.RepliesBack.{replies_back}
 use Rattle.codec.proofs.RepliesForm.{replies_form}
 use Rattle.codec.proofs.answer_reader.read_answer.Goals as goal
 
-pub returns-in-default : goal.returns-in-default
+pub returns-in_default : goal.returns-in_default
 unfolding decode_reply
-returns-in-default c = record { value = search rules; back = replies_back; form = replies_form }
+returns-in_default c = record { value = search rules; back = replies_back; form = replies_form }
 
 pub returns : goal.returns
 unfolding decode_reply

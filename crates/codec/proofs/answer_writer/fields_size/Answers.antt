@@ -20,13 +20,13 @@ pub returns-else-bytes-gt4294967295 : goal.returns-else-bytes-gt4294967295
 unfolding encode_reply
 returns-else-bytes-gt4294967295 c = (search rules, search rules, search rules, no_out _ _ c.in-Read.is refl)
 
-pub overflow-add-result-in-Names : goal.overflow-add-result-in-Names
-overflow-add-result-in-Names c = let b = c.are-names.ensures.bound c.if-not-are-names.false in omega arith
+pub overflow_add-result-in-Names : goal.overflow_add-result-in-Names
+overflow_add-result-in-Names c = let b = c.are_names.ensures.bound c.if-not-are_names.false in omega arith
 
-pub returns-else-not-are-names : goal.returns-else-not-are-names
-returns-else-not-are-names c =
-    let t = c.if-not-are-names.false in
-    let b = c.are-names.ensures.bound t in
-    let w = c.are-names.ensures.written t in
-    let l = c.are-names.ensures.count t in
+pub returns-else-not-are_names : goal.returns-else-not-are_names
+returns-else-not-are_names c =
+    let t = c.if-not-are_names.false in
+    let b = c.are_names.ensures.bound t in
+    let w = c.are_names.ensures.written t in
+    let l = c.are_names.ensures.count t in
     (search rules, search rules, omega arith, no_out _ _ c.in-Names.is (names_out_lem _ _ w l))

@@ -3,11 +3,11 @@ use Rattle.promise.specs.Layout.{call_in}
 use Rattle.codec.proofs.CallKinds.{no_kind, by_kind, unknown_kind}
 use Rattle.codec.proofs.call_reader.read_kind.Goals as goal
 
-pub returns-in-default : goal.returns-in-default
-returns-in-default c = no_kind _ (sym c.in-default.ensures)
+pub returns-in_default : goal.returns-in_default
+returns-in_default c = no_kind _ (sym c.in_default.ensures)
 
-pub returns-in-default-kind-of : goal.returns-in-default-kind-of
-returns-in-default-kind-of c = by_kind _ _ _ (sym c.in-Some.ensures) ∙ unknown_kind _ _ c.in-default-kind-of.ensures
+pub returns-in_default-kind_of : goal.returns-in_default-kind_of
+returns-in_default-kind_of c = by_kind _ _ _ (sym c.in-Some.ensures) ∙ unknown_kind _ _ c.in_default-kind_of.ensures
 
 pub returns : goal.returns
 returns c =

@@ -10,11 +10,11 @@ pub loop-j-preserved : goal.loop-j-preserved
 loop-j-preserved c =
     let lt : c.loop-j.j < length c.args.asking.slots = search rules in
     let lp : c.loop-j.j < length (parts_in c.loop-j.parts) = omega (arith, c.loop-j.invariant.4.0) in (
-      asks_more c.args.which c.loop-j.j c.args.asking.slots (vec_items c.args.outputs.now) (vec_items c.loop-j.outputs) (vec_items c.ask-one.new.outputs) lt c.loop-j.invariant.0 c.ask-one.ensures.outs,
+      asks_more c.args.which c.loop-j.j c.args.asking.slots (vec_items c.args.outputs.now) (vec_items c.loop-j.outputs) (vec_items c.ask_one.new.outputs) lt c.loop-j.invariant.0 c.ask_one.ensures.outs,
       search rules,
       search rules,
-      sealing_more (parts_in c.loop-j.parts) (parts_in c.ask-one.new.parts) (parts_in c.args.parts.now) c.args.which c.args.asking.session.0 c.loop-j.j c.args.asking.slots lp c.loop-j.invariant.3 c.ask-one.ensures.parts,
-      c.ask-one.ensures.ready,
+      sealing_more (parts_in c.loop-j.parts) (parts_in c.ask_one.new.parts) (parts_in c.args.parts.now) c.args.which c.args.asking.session.0 c.loop-j.j c.args.asking.slots lp c.loop-j.invariant.3 c.ask_one.ensures.parts,
+      c.ask_one.ensures.ready,
     )
 
 pub returns : goal.returns

@@ -10,7 +10,7 @@ loop-i-init g c = search rules
 
 pub loop-i-preserved : goal.loop-i-preserved
 loop-i-preserved g c = (
-  ap (λ (xs : List DeskId). map number xs) c.note-lapsed.ensures.desks ∙ silent_next _ _ _ _ _ c.loop-i-test.true c.loop-i.invariant.0 refl,
-  omega (arith, c.note-lapsed.ensures.len),
-  c.note-lapsed.ensures.cap ∙ c.loop-i.invariant.2,
+  ap (λ (xs : List DeskId). map number xs) c.note_lapsed.ensures.desks ∙ silent_next _ _ _ _ _ c.loop-i-test.true c.loop-i.invariant.0 refl,
+  omega (arith, c.note_lapsed.ensures.len),
+  c.note_lapsed.ensures.cap ∙ c.loop-i.invariant.2,
 )

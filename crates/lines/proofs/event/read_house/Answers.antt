@@ -4,8 +4,8 @@ use Rattle.lines.proofs.event.read_house.Goals as goal
 pub returns : goal.returns
 returns c =
     record {
-      value = c.house-shape.ensures.value;
-      refused = c.house-shape.ensures.refused;
-      room = c.house-shape.ensures.room;
+      value = c.house_shape.ensures.value;
+      refused = c.house_shape.ensures.refused;
+      room = c.house_shape.ensures.room;
       law = house_written_back c.args.line.now;
     }

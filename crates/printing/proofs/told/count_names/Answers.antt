@@ -9,10 +9,10 @@ loop-left-preserved c =
     ap length (listed_more c.loop-left.left c.loop-left.rest.now _ c.loop-left-test.true (sym c.in-Some.ensures.value)) in
     (omega (arith, c.loop-left.invariant.0, c.loop-left.invariant.1), omega (arith, c.loop-left.invariant.1))
 
-pub returns-in-default : goal.returns-in-default
-returns-in-default c =
+pub returns-in_default : goal.returns-in_default
+returns-in_default c =
     let m : length (listed c.loop-left.left c.loop-left.rest.now) ≡ 0 =
-    ap length (listed_stops c.loop-left.left c.loop-left.rest.now c.loop-left-test.true (sym c.in-default.ensures.value)) in
+    ap length (listed_stops c.loop-left.left c.loop-left.rest.now c.loop-left-test.true (sym c.in_default.ensures.value)) in
     omega (arith, c.loop-left.invariant.0, c.loop-left.invariant.1)
 
 pub returns : goal.returns

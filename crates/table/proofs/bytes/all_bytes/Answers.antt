@@ -14,7 +14,7 @@ none [] l = refl
 none (b ∷ bs) l = absurd (omega arith)
 
 pub returns-then-bytes-gt0 : goal.returns-then-bytes-gt0
-returns-then-bytes-gt0 c = each c.args.bytes.now (λ i. (let w = c.type-inv.bytes i in omega arith))
+returns-then-bytes-gt0 c = each c.args.bytes.now (λ i. (let w = c.type_inv.bytes i in omega arith))
 
 pub returns-else-bytes-gt0 : goal.returns-else-bytes-gt0
 returns-else-bytes-gt0 c = none c.args.bytes.now c.if-bytes-gt0.false

@@ -2,10 +2,10 @@ use Rattle.std.proofs.Common.{vec_items, sym, ◌∙◌, arith, rules}
 use Rattle.text.proofs.Loops.{pairs_more, pairs_stop, pairs_done}
 use Rattle.text.proofs.hex.read_pairs.Goals as goal
 
-pub returns-in-default : goal.returns-in-default
-returns-in-default c =
+pub returns-in_default : goal.returns-in_default
+returns-in_default c =
     record {
-      value = pairs_stop (vec_items c.loop-i.out) _ c.loop-i.i c.args.w.now (omega arith) c.loop-i.invariant.0 (sym c.pair-value.ensures ∙ c.in-default.is);
+      value = pairs_stop (vec_items c.loop-i.out) _ c.loop-i.i c.args.w.now (omega arith) c.loop-i.invariant.0 (sym c.pair_value.ensures ∙ c.in_default.is);
       cap = c.loop-i.invariant.3;
     }
 

@@ -50,9 +50,9 @@ returns-in-Nothing c =
       cap = c.loop-b.invariant.2;
     }
 
-pub returns-in-default : goal.returns-in-default
-returns-in-default c =
+pub returns-in_default : goal.returns-in_default
+returns-in_default c =
     record {
-      value = name_cut (vec_items c.loop-b.out) _ c.loop-b.pending (255 - vec_len c.loop-b.out) c.loop-b.b-index c.args.w.now c.loop-b.invariant.0 c.loop-b-test.false c.in-default.not-Nothing;
+      value = name_cut (vec_items c.loop-b.out) _ c.loop-b.pending (255 - vec_len c.loop-b.out) c.loop-b.b-index c.args.w.now c.loop-b.invariant.0 c.loop-b-test.false c.in_default.not-Nothing;
       cap = c.loop-b.invariant.2;
     }

@@ -8,10 +8,10 @@ use Rattle.desk_side.proofs.desk.Desk.ask.Goals as goal
 pub returns : goal.returns
 returns c = record {
   did = λ b. record {
-    knows = ap (λ (a : Asking). desk_of a (parts_in c.ask-all.new.parts)) c.ask-self.ensures
-        ∙ ask_knows c.args.self.now.asking c.args.which c.args.clock (parts_in c.args.self.now.parts) (parts_in c.ask-all.new.parts) c.ask-all.ensures.holds;
-    does = ask_does c.args.self.now.asking c.args.which c.args.clock (parts_in c.args.self.now.parts) (parts_in c.ask-all.new.parts) (vec_items c.args.self.now.greeting) b
-        (vec_items c.args.self.now.outputs) (vec_items c.ask-all.new.outputs) c.ask-all.ensures.holds c.requires c.ask-all.ensures.outs;
+    knows = ap (λ (a : Asking). desk_of a (parts_in c.ask_all.new.parts)) c.ask-self.ensures
+        ∙ ask_knows c.args.self.now.asking c.args.which c.args.clock (parts_in c.args.self.now.parts) (parts_in c.ask_all.new.parts) c.ask_all.ensures.holds;
+    does = ask_does c.args.self.now.asking c.args.which c.args.clock (parts_in c.args.self.now.parts) (parts_in c.ask_all.new.parts) (vec_items c.args.self.now.greeting) b
+        (vec_items c.args.self.now.outputs) (vec_items c.ask_all.new.outputs) c.ask_all.ensures.holds c.requires c.ask_all.ensures.outs;
   };
   retry = refl;
 }

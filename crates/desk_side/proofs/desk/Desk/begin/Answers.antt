@@ -7,14 +7,14 @@ use Rattle.desk_side.specs.View.{desk_of}
 use Rattle.desk_side.proofs.Turned.{begins_so}
 use Rattle.desk_side.proofs.desk.Desk.begin.Goals as goal
 
-pub invariant-of-result : goal.invariant-of-result
-invariant-of-result c =
+pub invariant_of-result : goal.invariant_of-result
+invariant_of-result c =
     let p = c.in-Ok.ensures in (
       (ap length p.0 ∙ length-replicate 8 (replicate {A = ℕ} 30 0), p.1, p.2),
       (
-        c.in-Ok-with-capacity.ensures.made.1.1,
+        c.in-Ok-with_capacity.ensures.made.1.1,
         (
-          omega (arith, c.in-Ok-with-capacity-2.ensures.made.1.1),
+          omega (arith, c.in-Ok-with_capacity-2.ensures.made.1.1),
           tt,
         ),
       ),
@@ -23,7 +23,7 @@ invariant-of-result c =
 pub returns : goal.returns
 returns c = (
   ap (λ (a : Asking). desk_of a (parts_in c.in-Ok.parts)) c.begin-2.ensures ∙ begins_so c.args.nonce c.args.clock (parts_in c.in-Ok.parts),
-  c.in-Ok-with-capacity-2.ensures.made.0,
+  c.in-Ok-with_capacity-2.ensures.made.0,
   refl,
   search rules,
   search rules,

@@ -13,10 +13,10 @@ pub returns-in-Some : goal.returns-in-Some
 returns-in-Some c =
     let ps : List Bytes = parts_in c.args.self.now.parts in
     record {
-      did = λ b. did_as c.take-call.new.self b _ _
+      did = λ b. did_as c.take_call.new.self b _ _
           (call_free c.args.clock.0 c.args.number.0 c.args.call.now c.shorten.result.now c.in-Some.slot.0 c.in-Some.last.0 c.next.result.0 (desk_in c.args.self.now) (c.in-Some.ensures.value ps) c.shorten.ensures.value c.next.ensures)
-          (c.take-call.ensures.did b);
-      retry = c.take-call.ensures.retry;
+          (c.take_call.ensures.did b);
+      retry = c.take_call.ensures.retry;
     }
 
 pub returns-in-None : goal.returns-in-None
@@ -27,7 +27,7 @@ returns-in-None c =
           (sym (call_full c.args.clock.0 c.args.number.0 c.args.call.now (desk_in c.args.self.now) (c.in-None.ensures.value ps)))
           (record {
             knows = refl;
-            does = one_out ps (vec_items c.args.self.now.greeting) b (vec_items c.args.self.now.outputs) (vec_items c.push-reserved.new.self) (Busy c.args.number) c.requires c.push-reserved.ensures.items;
+            does = one_out ps (vec_items c.args.self.now.greeting) b (vec_items c.args.self.now.outputs) (vec_items c.push_reserved.new.self) (Busy c.args.number) c.requires c.push_reserved.ensures.items;
           });
       retry = refl;
     }

@@ -14,7 +14,7 @@ returns-in-Some c =
           (sym (response_some c.args.slot.0 c.args.seq c.in-Some.number (take c.args.len (drop c.args.start b)) _ c.args.self.now.asking (parts_in c.args.self.now.parts) is c.in-Some.ensures.value))
           (record {
             knows = settled_knows c.args.slot.0 c.in-Some.number.0 c.args.seq (take c.args.len (drop c.args.start b)) c.args.self.now.asking c.settle-self.result (parts_in c.args.self.now.parts) c.settle-self.ensures;
-            does = one_out (parts_in c.args.self.now.parts) (vec_items c.args.self.now.greeting) b (vec_items c.args.self.now.outputs) (vec_items c.push-reserved.new.self) (Tell c.in-Some.number c.args.start c.args.len) c.requires c.push-reserved.ensures.items;
+            does = one_out (parts_in c.args.self.now.parts) (vec_items c.args.self.now.greeting) b (vec_items c.args.self.now.outputs) (vec_items c.push_reserved.new.self) (Tell c.in-Some.number c.args.start c.args.len) c.requires c.push_reserved.ensures.items;
           });
       retry = refl;
     }
@@ -28,8 +28,8 @@ returns-in-None c =
       retry = refl;
     }
 
-pub returns-else-is-session : goal.returns-else-is-session
-returns-else-is-session c =
+pub returns-else-is_session : goal.returns-else-is_session
+returns-else-is_session c =
     let is : is_session c.args.session.0 c.args.self.now.asking.session.0 ≡ false = search rules in
     record {
       did = λ b. did_still c.args.self.now b _ c.requires (response_other c.args.slot.0 c.args.seq.0 (take c.args.len (drop c.args.start b)) _ _ is);

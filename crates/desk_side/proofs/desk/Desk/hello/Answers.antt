@@ -8,8 +8,8 @@ use Rattle.desk_side.proofs.desk.Desk.hello.Goals as goal
 
 pub returns : goal.returns
 returns c = record {
-  says = λ b. one_out (parts_in c.args.self.now.parts) (vec_items c.write-hello.new.greeting) b (vec_items c.args.self.now.outputs) (vec_items c.push-reserved.new.self) Hello c.requires c.push-reserved.ensures.items
-      ∙ ap (λ (y : Bytes). To 0 y ∷ []) c.write-hello.ensures.items;
+  says = λ b. one_out (parts_in c.args.self.now.parts) (vec_items c.write_hello.new.greeting) b (vec_items c.args.self.now.outputs) (vec_items c.push_reserved.new.self) Hello c.requires c.push_reserved.ensures.items
+      ∙ ap (λ (y : Bytes). To 0 y ∷ []) c.write_hello.ensures.items;
   asking = refl;
   parts = refl;
   retry = refl;

@@ -5,8 +5,8 @@ use Rattle.desk_side.proofs.Heard.{did_still}
 use Rattle.desk_side.proofs.Ticked.{alive_knows, alive_does, alive_not}
 use Rattle.desk_side.proofs.desk.Desk.keep_alive.Goals as goal
 
-pub returns-then-is-silent : goal.returns-then-is-silent
-returns-then-is-silent c =
+pub returns-then-is_silent : goal.returns-then-is_silent
+returns-then-is_silent c =
     let is : is_silent c.args.clock c.args.self.now.asking ≡ true = search rules in
     record {
       did = λ b. record {
@@ -16,8 +16,8 @@ returns-then-is-silent c =
       retry = c.alive.ensures.retry;
     }
 
-pub returns-else-is-silent : goal.returns-else-is-silent
-returns-else-is-silent c = record {
+pub returns-else-is_silent : goal.returns-else-is_silent
+returns-else-is_silent c = record {
   did = λ b. did_still c.args.self.now b _ c.requires (alive_not c.args.clock c.args.self.now.asking (parts_in c.args.self.now.parts) (search rules));
   retry = refl;
 }

@@ -22,9 +22,9 @@ returns c =
     let back2 : call_in (get_or (parts_in c.put.new.self) c.args.slot.0 []) ≡ c.args.call.now = rw hd at back in
     let behind : call_in body ≡ c.args.call.now = sym (ap call_in at) ∙ back2 in
     record {
-      did = λ b. did_as c.say-first.new.self b _ _
-          (rw c.none-waits.ensures (take_is c.args.clock c.args.number c.args.call.now body c.args.slot c.args.seq c.may-grab.result c.args.self.now.asking c.take-call-self.result ps (parts_in c.put.new.self)
-          lt c.put.ensures.parts behind c.may-grab.ensures c.take-call-self.ensures))
-          (c.say-first.ensures.did b);
-      retry = c.say-first.ensures.retry;
+      did = λ b. did_as c.say_first.new.self b _ _
+          (rw c.none_waits.ensures (take_is c.args.clock c.args.number c.args.call.now body c.args.slot c.args.seq c.may_grab.result c.args.self.now.asking c.take_call-self.result ps (parts_in c.put.new.self)
+          lt c.put.ensures.parts behind c.may_grab.ensures c.take_call-self.ensures))
+          (c.say_first.ensures.did b);
+      retry = c.say_first.ensures.retry;
     }

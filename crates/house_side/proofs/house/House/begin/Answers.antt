@@ -5,5 +5,5 @@ use Rattle.house_side.proofs.house.House.begin.Goals as goal
 
 pub returns : goal.returns
 returns g c =
-    let none : map lapse_of (vec_items c.in-ok-lapsed.lapsed) ≡ [] = search rules in
+    let none : map lapse_of (vec_items c.in_ok-lapsed.lapsed) ≡ [] = search rules in
     (refl, none, λ e. begins _ _ _ _ c.begin-sessions.ensures e)

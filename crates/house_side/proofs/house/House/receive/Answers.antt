@@ -3,8 +3,8 @@ use Rattle.house_side.specs.Lapses.{number}
 use Rattle.house_side.proofs.Heard.{from_nobody, from_desk}
 use Rattle.house_side.proofs.house.House.receive.Goals as goal
 
-pub returns-in-default-of : goal.returns-in-default-of
-returns-in-default-of g c = record { turn = from_nobody _ _ _ _ _ _ _ _ c.in-Some.ensures.value c.in-default-of.ensures c.requires; room = refl }
+pub returns-in_default-of : goal.returns-in_default-of
+returns-in_default-of g c = record { turn = from_nobody _ _ _ _ _ _ _ _ c.in-Some.ensures.value c.in_default-of.ensures c.requires; room = refl }
 
 pub returns : goal.returns
 returns g c = record {

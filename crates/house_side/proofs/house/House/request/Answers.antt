@@ -5,8 +5,8 @@ use Rattle.house_side.proofs.house.House.request.Goals as goal
 pub returns-then-request-lt8 : goal.returns-then-request-lt8
 returns-then-request-lt8 g c = record {
   turn = request_in_slot _ _ _ _ _ _ _ _ (lt-ltb _ _ c.if-request-lt8.true) _ _ _ _ _ _
-      c.take-up.ensures.room c.take-up.ensures.table c.take-up.ensures.known c.serve.ensures.table c.serve.ensures.known c.serve.ensures.outs;
-  room = c.serve.ensures.room ∙ c.take-up.ensures.room;
+      c.take_up.ensures.room c.take_up.ensures.table c.take_up.ensures.known c.serve.ensures.table c.serve.ensures.known c.serve.ensures.outs;
+  room = c.serve.ensures.room ∙ c.take_up.ensures.room;
 }
 
 pub returns-else-request-lt8 : goal.returns-else-request-lt8

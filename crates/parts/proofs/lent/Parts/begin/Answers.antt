@@ -2,13 +2,13 @@ use Rattle.std.proofs.Common.{◌/◌, vec_items, vec_len, refl, arith, rules}
 use Rattle.parts.proofs.Kept.{parts_new, within_new, parts_fit}
 use Rattle.parts.proofs.lent.Parts.begin.Goals as goal
 
-pub invariant-of-result : goal.invariant-of-result
-invariant-of-result c = (
+pub invariant_of-result : goal.invariant_of-result
+invariant_of-result c = (
   search rules,
   (
-    rw (c.in-Ok-all-so.ensures.1, c.in-Ok.ensures.1) (parts_fit c.args.lent c.args.count),
+    rw (c.in-Ok-all_so.ensures.1, c.in-Ok.ensures.1) (parts_fit c.args.lent c.args.count),
     (
-      within_new (vec_items c.in-Ok-all-so.lens) c.args.head (c.args.lent / c.args.count) c.args.count c.in-Ok-all-so.ensures.0 (search rules),
+      within_new (vec_items c.in-Ok-all_so.lens) c.args.head (c.args.lent / c.args.count) c.args.count c.in-Ok-all_so.ensures.0 (search rules),
       tt,
     ),
   ),
@@ -16,8 +16,8 @@ invariant-of-result c = (
 
 pub returns : goal.returns
 returns c = (
-  parts_new (vec_items c.in-Ok.mem) (vec_items c.in-Ok-all-so.lens) c.args.lent (c.args.lent / c.args.count) c.args.head c.args.count
-      c.in-Ok.ensures.0 c.in-Ok-all-so.ensures.0 (search rules) refl,
+  parts_new (vec_items c.in-Ok.mem) (vec_items c.in-Ok-all_so.lens) c.args.lent (c.args.lent / c.args.count) c.args.head c.args.count
+      c.in-Ok.ensures.0 c.in-Ok-all_so.ensures.0 (search rules) refl,
   refl,
   refl,
   search rules,

@@ -4,8 +4,8 @@ use Rattle.parts.specs.Places.{fitted}
 use Rattle.parts.proofs.Kept.{parts_bodied, parts_past, within_set, bodied_back, length_parts}
 use Rattle.parts.proofs.lent.Parts.put.Goals as goal
 
-pub invariant-of-self : goal.invariant-of-self
-invariant-of-self c = (
+pub invariant_of-self : goal.invariant_of-self
+invariant_of-self c = (
   search rules,
   (
     search rules,

@@ -3,8 +3,8 @@ use Rattle.table.specs.Tables.{state_of}
 use Rattle.table.proofs.Holds.{within_vec}
 use Rattle.table.proofs.tables.Table.after.Goals as goal
 
-pub overflow-add-result : goal.overflow-add-result
-overflow-add-result c = let t = c.args.self.now in omega (arith, within_vec t c.look-place.result.index (c.look-place.ensures.there c.if-place.true), t.heads.ok)
+pub overflow_add-result : goal.overflow_add-result
+overflow_add-result c = let t = c.args.self.now in omega (arith, within_vec t c.look-place.result.index (c.look-place.ensures.there c.if-place.true), t.heads.ok)
 
 pub returns-then-place : goal.returns-then-place
 returns-then-place c =

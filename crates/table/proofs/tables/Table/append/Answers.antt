@@ -27,17 +27,17 @@ enter-requires c =
       free = λ h. (let l = free_head (state_of t).sheets c.args.place.index c.args.place.found (new_sheet c.args.name.now c.args.bytes.now (state_of t)) c.args.load t.room (vec_capacity t.heads) c.requires.within c.requires.weighed c.requires.light t.held h in omega arith);
     }
 
-after : (c : goal.After-enter) → sheets_of (vec_items c.write-piece.new.log) (vec_items c.enter.new.heads) ≡ laid (state_of c.args.self.now).sheets c.args.place.index c.args.place.found (new_sheet c.args.name.now c.args.bytes.now (state_of c.args.self.now))
+after : (c : goal.After-enter) → sheets_of (vec_items c.write_piece.new.log) (vec_items c.enter.new.heads) ≡ laid (state_of c.args.self.now).sheets c.args.place.index c.args.place.found (new_sheet c.args.name.now c.args.bytes.now (state_of c.args.self.now))
 after c =
     let t = c.args.self.now in
-    appended (vec_items t.log) (vec_items c.write-piece.new.log) c.args.name.now c.args.bytes.now (vec_items t.heads) (vec_items c.enter.new.heads) t.used c.args.place.index (t.changes + 1) c.args.place.found
-    (omega (arith, c.requires.free, t.log.ok.0)) t.inside c.write-piece.ensures.items c.enter.ensures.items
+    appended (vec_items t.log) (vec_items c.write_piece.new.log) c.args.name.now c.args.bytes.now (vec_items t.heads) (vec_items c.enter.new.heads) t.used c.args.place.index (t.changes + 1) c.args.place.found
+    (omega (arith, c.requires.free, t.log.ok.0)) t.inside c.write_piece.ensures.items c.enter.ensures.items
 
-pub invariant-of-self : goal.invariant-of-self
-invariant-of-self c =
+pub invariant_of-self : goal.invariant_of-self
+invariant_of-self c =
     let t = c.args.self.now in
     let a = after c in
-    let l = c.write-piece.ensures.len in (
+    let l = c.write_piece.ensures.len in (
       omega (arith, c.requires.free, l),
       (
         laid_inside (vec_items t.heads) (vec_items c.enter.new.heads) t.used (t.used + length c.args.name.now + length c.args.bytes.now) c.args.place.index c.args.place.found (new_head t.used c.args.name.now c.args.bytes.now (t.changes + 1)) (omega arith) t.inside (new_below t.used c.args.name.now c.args.bytes.now (t.changes + 1) c.requires.named c.requires.narrow c.requires.small) c.enter.ensures.items,
@@ -74,7 +74,7 @@ returns c =
     let t = c.args.self.now in
     record {
       state = ap (λ (x : List Sheet). record { sheets = x; holds = []; changes' = t.changes + 1 })
-          (appended (vec_items t.log) (vec_items c.write-piece.new.log) c.args.name.now c.args.bytes.now (vec_items t.heads) (vec_items c.enter.new.heads) t.used c.args.place.index (t.changes + 1) c.args.place.found
-          (omega (arith, c.requires.free, t.log.ok.0)) t.inside c.write-piece.ensures.items c.enter.ensures.items);
+          (appended (vec_items t.log) (vec_items c.write_piece.new.log) c.args.name.now c.args.bytes.now (vec_items t.heads) (vec_items c.enter.new.heads) t.used c.args.place.index (t.changes + 1) c.args.place.found
+          (omega (arith, c.requires.free, t.log.ok.0)) t.inside c.write_piece.ensures.items c.enter.ensures.items);
       room = refl;
     }

@@ -15,8 +15,8 @@ index-mut-requires c = within_vec c.args.self.now c.args.i c.requires.within
 abbrev new_head : Head → ℕ → ℕ → Head
 new_head h len e = record { at = h.at; width = h.width; len = len; size = h.size; edition = record { 0 = e } }
 
-pub invariant-of-self : goal.invariant-of-self
-invariant-of-self c =
+pub invariant_of-self : goal.invariant_of-self
+invariant_of-self c =
     let t = c.args.self.now in
     let h = c.head-h.result in
     let eh = c.head-h.ensures.value in

@@ -14,11 +14,11 @@ use Rattle.table.proofs.tables.Table.forget.Goals as goal
 pub remove-requires : goal.remove-requires
 remove-requires c = within_vec c.args.self.now c.args.i c.requires
 
-pub overflow-sub-self : goal.overflow-sub-self
-overflow-sub-self c = let t = c.args.self.now in omega (arith, weight_removed (state_of t).sheets c.args.i blank_sheet c.requires, t.weighed, c.head-h.ensures.len)
+pub overflow_sub-self : goal.overflow_sub-self
+overflow_sub-self c = let t = c.args.self.now in omega (arith, weight_removed (state_of t).sheets c.args.i blank_sheet c.requires, t.weighed, c.head-h.ensures.len)
 
-pub invariant-of-self : goal.invariant-of-self
-invariant-of-self c =
+pub invariant_of-self : goal.invariant_of-self
+invariant_of-self c =
     let t = c.args.self.now in
     let q = c.remove.ensures.items in
     let s = ap (sheets_of (vec_items t.log)) q ∙ sheets_removed (vec_items t.log) (vec_items t.heads) c.args.i in

@@ -8,15 +8,15 @@ use Rattle.table.proofs.Changing.{patch_out, patch_none, patch_past, patch_on, p
 use Rattle.table.proofs.Fits.{lies}
 use Rattle.table.proofs.tables.Table.patch.Goals as goal
 
-pub returns-then-not-may-put : goal.returns-then-not-may-put
-returns-then-not-may-put c = record { does = λ d. patch_out c.args.self.now.room d c.args.at c.args.name.now c.args.bytes.now (expect_of c.args.expect) (state_of c.args.self.now) (sym c.if-not-may-put.ensures); room = refl }
+pub returns-then-not-may_put : goal.returns-then-not-may_put
+returns-then-not-may_put c = record { does = λ d. patch_out c.args.self.now.room d c.args.at c.args.name.now c.args.bytes.now (expect_of c.args.expect) (state_of c.args.self.now) (sym c.if-not-may_put.ensures); room = refl }
 
 pub returns-then-not-place : goal.returns-then-not-place
-returns-then-not-place c = record { does = λ d. patch_none c.args.self.now.room d c.args.at c.args.name.now c.args.bytes.now (expect_of c.args.expect) (state_of c.args.self.now) _ c.look-place.result.found (sym c.if-not-may-put.ensures) (not-true c.look-place.result.found c.if-not-place.true) c.look-place.ensures.finds; room = refl }
+returns-then-not-place c = record { does = λ d. patch_none c.args.self.now.room d c.args.at c.args.name.now c.args.bytes.now (expect_of c.args.expect) (state_of c.args.self.now) _ c.look-place.result.found (sym c.if-not-may_put.ensures) (not-true c.look-place.result.found c.if-not-place.true) c.look-place.ensures.finds; room = refl }
 
 pub returns-then-at-old : goal.returns-then-at-old
 returns-then-at-old c = record {
-  does = λ d. patch_past c.args.self.now.room d c.args.at c.args.name.now c.args.bytes.now (expect_of c.args.expect) (state_of c.args.self.now) _ c.look-place.result.found (sym c.if-not-may-put.ensures) (not-false c.look-place.result.found c.if-not-place.false) c.look-place.ensures.finds
+  does = λ d. patch_past c.args.self.now.room d c.args.at c.args.name.now c.args.bytes.now (expect_of c.args.expect) (state_of c.args.self.now) _ c.look-place.result.found (sym c.if-not-may_put.ensures) (not-false c.look-place.result.found c.if-not-place.false) c.look-place.ensures.finds
       (subst (λ (k : ℕ). (ltb k c.args.at || ltb 1048576 (c.args.at + length c.args.bytes.now)) ≡ true) c.head-old.ensures.len (beyond c.head-old.result.len c.args.at (length c.args.bytes.now) c.then-at-old.either));
   room = refl;
 }
@@ -29,7 +29,7 @@ returns-in-Some c =
     let bl : c.args.at ≤ length old = omega (arith, c.if-at-old.false) in
     let ll : length (patched c.args.at c.args.bytes.now old) ≡ c.max-len.result = patched_length c.args.at c.args.bytes.now old bl ∙ ap (λ (k : ℕ). max k (c.args.at + length c.args.bytes.now)) (sym el) ∙ sym c.max-len.ensures in
     record {
-      does = λ d. sym (c.in-Some.ensures d (patched c.args.at c.args.bytes.now old) ll) ∙ patch_on t.room d c.args.at c.args.name.now c.args.bytes.now (expect_of c.args.expect) (state_of t) _ c.look-place.result.found (sym c.if-not-may-put.ensures) (not-false c.look-place.result.found c.if-not-place.false) c.look-place.ensures.finds bl (omega (arith, c.if-end-gt1048576.false));
+      does = λ d. sym (c.in-Some.ensures d (patched c.args.at c.args.bytes.now old) ll) ∙ patch_on t.room d c.args.at c.args.name.now c.args.bytes.now (expect_of c.args.expect) (state_of t) _ c.look-place.result.found (sym c.if-not-may_put.ensures) (not-false c.look-place.result.found c.if-not-place.false) c.look-place.ensures.finds bl (omega (arith, c.if-end-gt1048576.false));
       room = refl;
     }
 
@@ -47,8 +47,8 @@ amend-requires c =
       begun = bl;
       whole = ml;
       small = omega (arith, c.max-len.ensures, l.filled, l.short, c.if-end-gt1048576.false);
-      light = c.in-default.ensures.1 (patched c.args.at c.args.bytes.now old) (patched_length c.args.at c.args.bytes.now old bl ∙ sym ml);
-      counted = c.in-default.ensures.0;
+      light = c.in_default.ensures.1 (patched c.args.at c.args.bytes.now old) (patched_length c.args.at c.args.bytes.now old bl ∙ sym ml);
+      counted = c.in_default.ensures.0;
     }
 
 pub returns : goal.returns
@@ -59,7 +59,7 @@ returns c =
     let bl : c.args.at ≤ length old = omega (arith, c.if-at-old.false) in
     let ll : length (patched c.args.at c.args.bytes.now old) ≡ c.max-len.result = patched_length c.args.at c.args.bytes.now old bl ∙ ap (λ (k : ℕ). max k (c.args.at + length c.args.bytes.now)) (sym el) ∙ sym c.max-len.ensures in
     record {
-      does = λ d. ap (λ (s : State). record { reply = Edition s.changes'; state = s }) c.amend.ensures.state ∙ sym (c.in-default.ensures.2 d (patched c.args.at c.args.bytes.now old) ll)
-          ∙ patch_on t.room d c.args.at c.args.name.now c.args.bytes.now (expect_of c.args.expect) (state_of t) _ c.look-place.result.found (sym c.if-not-may-put.ensures) (not-false c.look-place.result.found c.if-not-place.false) c.look-place.ensures.finds bl (omega (arith, c.if-end-gt1048576.false));
+      does = λ d. ap (λ (s : State). record { reply = Edition s.changes'; state = s }) c.amend.ensures.state ∙ sym (c.in_default.ensures.2 d (patched c.args.at c.args.bytes.now old) ll)
+          ∙ patch_on t.room d c.args.at c.args.name.now c.args.bytes.now (expect_of c.args.expect) (state_of t) _ c.look-place.result.found (sym c.if-not-may_put.ensures) (not-false c.look-place.result.found c.if-not-place.false) c.look-place.ensures.finds bl (omega (arith, c.if-end-gt1048576.false));
       room = c.amend.ensures.room;
     }

@@ -14,15 +14,15 @@ index-mut-requires c = within_vec c.args.self.now c.args.i c.requires.within
 abbrev new_head : Head → ℕ → ℕ → Head
 new_head h at size = record { at = at; width = h.width; len = h.len; size = size; edition = h.edition }
 
-pub invariant-of-self : goal.invariant-of-self
-invariant-of-self c =
+pub invariant_of-self : goal.invariant_of-self
+invariant_of-self c =
     let t = c.args.self.now in
     let h = c.head-h.result in
     let e = c.head-h.ensures in
     let l = lies t.used h e.lies in
-    let a = (moved_sheets (vec_items t.log) (vec_items c.copy-up.new.log) (vec_items t.heads) t.used c.args.i c.args.size h (within t c.args.i c.requires.within) e.value (omega (arith, t.filled, t.log.ok.0)) l
-    (omega (arith, c.requires.free, c.requires.holds, e.len, e.width, t.log.ok.0)) t.inside c.copy-up.ensures.items) in
-    let n = c.copy-up.ensures.len in (
+    let a = (moved_sheets (vec_items t.log) (vec_items c.copy_up.new.log) (vec_items t.heads) t.used c.args.i c.args.size h (within t c.args.i c.requires.within) e.value (omega (arith, t.filled, t.log.ok.0)) l
+    (omega (arith, c.requires.free, c.requires.holds, e.len, e.width, t.log.ok.0)) t.inside c.copy_up.ensures.items) in
+    let n = c.copy_up.ensures.len in (
       omega (arith, c.requires.free, e.width, n),
       (
         laid_inside (vec_items t.heads) _ t.used (t.used + h.width + c.args.size) c.args.i true (new_head h t.used c.args.size) (omega arith) t.inside (below_from (t.used + h.width + c.args.size) (new_head h t.used c.args.size) (record { piece = omega arith; filled = omega (arith, c.requires.holds, e.len); named = l.named; narrow = l.narrow; short = c.requires.small })) refl,
@@ -62,8 +62,8 @@ returns c =
     let l = lies t.used h e.lies in
     record {
       same = ap (λ (x : List Sheet). record { sheets = x; holds = []; changes' = t.changes })
-          (moved_sheets (vec_items t.log) (vec_items c.copy-up.new.log) (vec_items t.heads) t.used c.args.i c.args.size h (within t c.args.i c.requires.within) e.value (omega (arith, t.filled, t.log.ok.0)) l
-          (omega (arith, c.requires.free, c.requires.holds, e.len, e.width, t.log.ok.0)) t.inside c.copy-up.ensures.items);
+          (moved_sheets (vec_items t.log) (vec_items c.copy_up.new.log) (vec_items t.heads) t.used c.args.i c.args.size h (within t c.args.i c.requires.within) e.value (omega (arith, t.filled, t.log.ok.0)) l
+          (omega (arith, c.requires.free, c.requires.holds, e.len, e.width, t.log.ok.0)) t.inside c.copy_up.ensures.items);
       room = refl;
       size = ap (λ (g : Head). g.size) (get_or-set_same (vec_items t.heads) c.args.i (new_head c.head-h.result t.used c.args.size) blank_head (within t c.args.i c.requires.within));
     }

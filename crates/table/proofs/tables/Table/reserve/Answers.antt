@@ -5,11 +5,11 @@ use Rattle.table.specs.declared.heads.Head.{Head}
 use Rattle.table.specs.View.{below, apart, rising, sheets_of}
 use Rattle.table.proofs.tables.Table.reserve.Goals as goal
 
-pub invariant-of-result : goal.invariant-of-result
+pub invariant_of-result : goal.invariant_of-result
 unfolding every rising weight apart
-invariant-of-result c =
-    let m = c.in-ok-heads.ensures in
-    let log = c.in-ok-log.log in (
+invariant_of-result c =
+    let m = c.in_ok-heads.ensures in
+    let log = c.in_ok-log.log in (
       omega arith,
       (
         subst (λ (hs : List Head). every (below 0) hs ≡ true) (sym m.items) refl,
@@ -24,10 +24,10 @@ invariant-of-result c =
                 (
                   omega arith,
                   (
-                    omega (arith, c.min-room.ensures, c.min.ensures, c.in-ok-log.ensures.made),
+                    omega (arith, c.min-room.ensures, c.min.ensures, c.in_ok-log.ensures.made),
                     (
                       omega (arith, m.capacity),
-                      (omega (arith, c.in-ok-spots.ensures.capacity), (omega arith, tt)),
+                      (omega (arith, c.in_ok-spots.ensures.capacity), (omega arith, tt)),
                     ),
                   ),
                 ),

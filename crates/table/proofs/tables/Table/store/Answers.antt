@@ -44,8 +44,8 @@ returns-then-fits c =
 pub append-requires : goal.append-requires
 append-requires c =
     let t = c.args.self.now in
-    let u = c.make-way.new.self in
-    let e = c.make-way.ensures.same in
+    let u = c.make_way.new.self in
+    let e = c.make_way.ensures.same in
     let i = c.args.place.index in
     let b = c.args.place.found in
     let s = c.requires.spotted in
@@ -57,22 +57,22 @@ append-requires c =
       named = c.requires.named;
       narrow = c.requires.narrow;
       small = c.requires.small;
-      free = omega (arith, c.make-way.ensures.free);
+      free = omega (arith, c.make_way.ensures.free);
       sorted = subst (λ (q : State). rising (laid q.sheets i b (new_sheet c.args.name.now c.args.bytes.now q)) ≡ true) (sym e) (subst (λ (l : List Sheet). rising l ≡ true) (s.puts x refl) (rising_put x (state_of t).sheets t.sorted));
       weighed = w ∙ ap (λ (q : State). weight (laid q.sheets i b (new_sheet c.args.name.now c.args.bytes.now q))) (sym e);
-      light = subst (λ (r : ℕ). c.weigh-load.result ≤ r) (sym c.make-way.ensures.room) (subst (λ (v : ℕ). v ≤ t.room) (sym (w ∙ ap weight (sym (s.puts x refl)))) c.requires.light);
+      light = subst (λ (r : ℕ). c.weigh-load.result ≤ r) (sym c.make_way.ensures.room) (subst (λ (v : ℕ). v ≤ t.room) (sym (w ∙ ap weight (sym (s.puts x refl)))) c.requires.light);
       counted = omega (arith, ap (λ (q : State). q.changes') e, c.requires.counted);
     }
 
 pub returns : goal.returns
 returns c =
     let t = c.args.self.now in
-    let e = c.make-way.ensures.same in
+    let e = c.make_way.ensures.same in
     let i = c.args.place.index in
     let b = c.args.place.found in
     let s = c.requires.spotted in
     let x : Sheet = new_sheet c.args.name.now c.args.bytes.now (state_of t) in
     record {
       state = c.append.ensures.state ∙ ap (λ (q : State). record { sheets = laid q.sheets i b (new_sheet c.args.name.now c.args.bytes.now q); holds = []; changes' = q.changes' + 1 }) e ∙ ap (λ (l : List Sheet). record { sheets = l; holds = []; changes' = t.changes + 1 }) (sym (s.puts x refl));
-      room = c.append.ensures.room ∙ c.make-way.ensures.room;
+      room = c.append.ensures.room ∙ c.make_way.ensures.room;
     }

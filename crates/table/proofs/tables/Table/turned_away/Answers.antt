@@ -5,17 +5,17 @@ use Rattle.table.specs.Tables.{state_of, new_sheet}
 use Rattle.table.proofs.Verdicts.{not_expected, used_up_lem, no_room_lem, admitted}
 use Rattle.table.proofs.tables.Table.turned_away.Goals as goal
 
-pub returns-then-not-as-expected : goal.returns-then-not-as-expected
-returns-then-not-as-expected c = λ d bs l. not_expected c.args.self.now.room d c.args.name.now (expect_of c.args.expect) bs (state_of c.args.self.now).sheets c.args.self.now.changes
-    (ap (as_expected (expect_of c.args.expect)) (ap edition_of c.requires.spotted.finds ∙ sym c.edition-at.ensures) ∙ sym c.if-not-as-expected.ensures)
+pub returns-then-not-as_expected : goal.returns-then-not-as_expected
+returns-then-not-as_expected c = λ d bs l. not_expected c.args.self.now.room d c.args.name.now (expect_of c.args.expect) bs (state_of c.args.self.now).sheets c.args.self.now.changes
+    (ap (as_expected (expect_of c.args.expect)) (ap edition_of c.requires.spotted.finds ∙ sym c.edition_at.ensures) ∙ sym c.if-not-as_expected.ensures)
 
 pub returns-then-self-ge4611686018427387904 : goal.returns-then-self-ge4611686018427387904
 returns-then-self-ge4611686018427387904 c = λ d bs l. used_up_lem c.args.self.now.room d c.args.name.now (expect_of c.args.expect) bs (state_of c.args.self.now).sheets c.args.self.now.changes
-    (ap (as_expected (expect_of c.args.expect)) (ap edition_of c.requires.spotted.finds ∙ sym c.edition-at.ensures) ∙ sym c.if-not-as-expected.ensures) c.if-self-ge4611686018427387904.true
+    (ap (as_expected (expect_of c.args.expect)) (ap edition_of c.requires.spotted.finds ∙ sym c.edition_at.ensures) ∙ sym c.if-not-as_expected.ensures) c.if-self-ge4611686018427387904.true
 
 pub returns-then-weigh-self : goal.returns-then-weigh-self
 returns-then-weigh-self c = λ d bs l. no_room_lem c.args.self.now.room d c.args.name.now (expect_of c.args.expect) bs (state_of c.args.self.now).sheets c.args.self.now.changes c.weigh.result
-    (ap (as_expected (expect_of c.args.expect)) (ap edition_of c.requires.spotted.finds ∙ sym c.edition-at.ensures) ∙ sym c.if-not-as-expected.ensures) c.if-self-ge4611686018427387904.false
+    (ap (as_expected (expect_of c.args.expect)) (ap edition_of c.requires.spotted.finds ∙ sym c.edition_at.ensures) ∙ sym c.if-not-as_expected.ensures) c.if-self-ge4611686018427387904.false
     (omega (arith, c.args.self.now.weighed, c.args.self.now.light))
     (c.weigh.ensures (new_sheet c.args.name.now bs (state_of c.args.self.now)) l ∙ ap weight (sym (c.requires.spotted.puts (new_sheet c.args.name.now bs (state_of c.args.self.now)) refl)))
     c.if-weigh-self.true
@@ -25,7 +25,7 @@ returns c = (
   c.if-self-ge4611686018427387904.false,
   (λ bs l. subst (λ (w : ℕ). w ≤ c.args.self.now.room) (c.weigh.ensures (new_sheet c.args.name.now bs (state_of c.args.self.now)) l ∙ ap weight (sym (c.requires.spotted.puts (new_sheet c.args.name.now bs (state_of c.args.self.now)) refl))) c.if-weigh-self.false),
   λ d bs l. admitted c.args.self.now.room d c.args.name.now (expect_of c.args.expect) bs (state_of c.args.self.now).sheets c.args.self.now.changes c.weigh.result
-      (ap (as_expected (expect_of c.args.expect)) (ap edition_of c.requires.spotted.finds ∙ sym c.edition-at.ensures) ∙ sym c.if-not-as-expected.ensures) c.if-self-ge4611686018427387904.false
+      (ap (as_expected (expect_of c.args.expect)) (ap edition_of c.requires.spotted.finds ∙ sym c.edition_at.ensures) ∙ sym c.if-not-as_expected.ensures) c.if-self-ge4611686018427387904.false
       (c.weigh.ensures (new_sheet c.args.name.now bs (state_of c.args.self.now)) l ∙ ap weight (sym (c.requires.spotted.puts (new_sheet c.args.name.now bs (state_of c.args.self.now)) refl)))
       c.if-weigh-self.false,
 )
