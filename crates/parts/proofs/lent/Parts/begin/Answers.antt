@@ -3,16 +3,11 @@ use Rattle.parts.proofs.Kept.{parts_new, within_new, parts_fit}
 use Rattle.parts.proofs.lent.Parts.begin.Goals as goal
 
 pub invariant_of-result : goal.invariant_of-result
-invariant_of-result c = (
-  search rules,
-  (
-    rw (c.in-Ok-all_so.ensures.1, c.in-Ok.ensures.1) (parts_fit c.args.lent c.args.count),
-    (
-      within_new (vec_items c.in-Ok-all_so.lens) c.args.head (c.args.lent / c.args.count) c.args.count c.in-Ok-all_so.ensures.0 (search rules),
-      tt,
-    ),
-  ),
-)
+invariant_of-result c = record {
+  headed = search rules;
+  fits = rw (c.in-Ok-all_so.ensures.1, c.in-Ok.ensures.1) (parts_fit c.args.lent c.args.count);
+  within = within_new (vec_items c.in-Ok-all_so.lens) c.args.head (c.args.lent / c.args.count) c.args.count c.in-Ok-all_so.ensures.0 (search rules);
+}
 
 pub returns : goal.returns
 returns c = (

@@ -5,16 +5,11 @@ use Rattle.parts.proofs.Kept.{parts_bodied, parts_past, within_set, bodied_back,
 use Rattle.parts.proofs.lent.Parts.put.Goals as goal
 
 pub invariant_of-self : goal.invariant_of-self
-invariant_of-self c = (
-  search rules,
-  (
-    search rules,
-    (
-      within_set c.args.self.now.lens.items c.args.self.now.head c.args.self.now.size c.args.j _ c.args.self.now.within (omega arith) (omega arith),
-      tt,
-    ),
-  ),
-)
+invariant_of-self c = record {
+  headed = search rules;
+  fits = search rules;
+  within = within_set c.args.self.now.lens.items c.args.self.now.head c.args.self.now.size c.args.j _ c.args.self.now.within (omega arith) (omega arith);
+}
 
 pub returns-then-j-len : goal.returns-then-j-len
 returns-then-j-len c =
