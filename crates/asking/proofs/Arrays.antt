@@ -4,7 +4,7 @@ use Rattle.std.proofs.lemmas.Bool.{cases_eq}
 use Rattle.promise.specs.Bytes.{Bytes}
 use Rattle.promise.specs.Desks.{at}
 use Rattle.asking.specs.Desk.{Slot, Idle, Waiting, full, free, first_idle}
-use Rattle.asking.proofs.View.{idle, waiting, abs_slot, slots_of}
+use Rattle.asking.proofs.View.{waiting, abs_slot, slots_of}
 use Rattle.asking.proofs.Base.{at_same, at_other}
 
 -- as a changed function

@@ -8,7 +8,7 @@ use Rattle.promise.specs.Machine.{Machine}
 use Rattle.promise.specs.Desks.{From, Beat, To, lapsed, is_used, has_lapsed, Letter, Seen, posted, tells, at}
 use Rattle.codec.specs.Messages.{Msg, Hello, Welcome, Request, Response, Alive}
 use Rattle.asking.specs.Lawful.{Lawful}
-use Rattle.asking.specs.House.{next64, Done, Peer, House, HouseTurn, unused, nobody, peer_of, hearing, hello_by, hello, offers, does_change, new_change_by, change_by, change, serve_by, promotes, takes_up_by, current_by, current, is_session, request_by, house_hears, house_from_by, lapse_by, lapses_from, is_silent}
+use Rattle.asking.specs.House.{next64, Done, Peer, House, HouseTurn, unused, nobody, peer_of, hearing, hello_by, offers, does_change, new_change_by, change_by, serve_by, promotes, takes_up_by, current_by, current, is_session, request_by, house_hears, house_from_by, lapse_by, lapses_from, is_silent}
 use Rattle.asking.specs.Desk.{Desk}
 use Rattle.asking.specs.Code.{house_turn}
 use Rattle.asking.proofs.View.{AbsPeer, AbsHouse, waiting, changing, abs_peer, abs_house, abs_offers, abs_promoted, abs_promotes, abs_recorded, abs_records}

@@ -1,5 +1,5 @@
 -- A desk tells that eight wait only at a call, and only where eight wait.
-use Rattle.std.proofs.Common.{◌≡◌, ℕ, zero, suc, ◌+◌, ◌<◌, ◌≤◌, Bool, true, false, not, eqb, ◌⊎◌, List, [], ◌∷◌, length, get_or, sym, refl, ap, ◌∙◌, subst, inl, inr, arith}
+use Rattle.std.proofs.Common.{◌≡◌, ℕ, zero, suc, ◌+◌, ◌<◌, ◌≤◌, Bool, true, false, eqb, ◌⊎◌, List, [], ◌∷◌, length, get_or, sym, refl, ap, ◌∙◌, subst, inl, inr, arith}
 use mathlib.Core.List.Memᴰ
 use mathlib.Core.List.{Memᴰ}
 use Rattle.std.proofs.lemmas.Bool.{both_ways, cases_lt}
@@ -11,7 +11,7 @@ use Rattle.codec.specs.Messages.{Msg, Hello, Welcome, Request, Response, Alive}
 use Rattle.asking.specs.Lawful.{Lawful}
 use Rattle.asking.specs.House.{House, HouseTurn, next64, hello_by, new_change_by, change_by, serve_by, current_by, request_by, takes_up, house_hears, house_from_by, hearing, lapse_by, lapses_from}
 use Rattle.asking.specs.Desk.{Slot, Idle, Waiting, Desk, DeskTurn, Free, full, free, first_idle, none_waits, requests, not_sent, is_due, first_said, call_by, shortened, adopts_by, welcome_by, seq_by, slot_by, response_by, desk_hears, desk_from_by, alive_by, tick_by}
-use Rattle.asking.specs.Code.{Settings, Mind, house, desk, house_turn, desk_turn, mind_turn, asking}
+use Rattle.asking.specs.Code.{Settings, Mind, house_turn, desk_turn, mind_turn, asking}
 use Rattle.asking.proofs.View.{AbsSlot, idle, waiting, slots_of, abs_house}
 use Rattle.asking.proofs.Arrays.{full_waits}
 use Rattle.asking.proofs.Facts.{DeskFacts, Facts, all_facts}

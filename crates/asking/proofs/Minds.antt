@@ -1,5 +1,5 @@
 -- What holds of everybody who is there, by induction on what happened: it is enough to look at beginnings and turns.
-use Rattle.std.proofs.Common.{◌≡◌, ℕ, suc, ◌+◌, ◌<◌, ◌≤◌, true, cond, eqb, List, sym, subst, arith}
+use Rattle.std.proofs.Common.{◌≡◌, ℕ, suc, ◌+◌, ◌<◌, ◌≤◌, cond, eqb, List, sym, subst, arith}
 use Rattle.std.proofs.lemmas.Bool.{cond_both, eqb-true}
 use Rattle.promise.specs.Machine.{Machine}
 use Rattle.promise.specs.Desks.{Comes, From, Ask, Beat, Clocks, Seen, at, Stand, gone, dark, there, World, Goes, first, time, hears, garbled, asked, beats, falls, comes, lights}

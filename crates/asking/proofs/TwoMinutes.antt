@@ -1,11 +1,11 @@
 -- Two minutes are enough: the house and one desk alone, from whatever has come to be.
-use Rattle.std.proofs.Common.{◌≡◌, ℕ, zero, suc, ◌+◌, ◌-◌, ◌<◌, ◌≤◌, Bool, true, false, eqb, leb, ◌⊎◌, List, [], ◌∷◌, ◌++◌, map, length, get_or, set, sym, refl, ap, ◌∙◌, subst, inl, inr, append_assoc, arith}
+use Rattle.std.proofs.Common.{◌≡◌, ℕ, zero, suc, ◌+◌, ◌-◌, ◌<◌, ◌≤◌, Bool, true, false, eqb, ◌⊎◌, List, [], ◌∷◌, ◌++◌, map, length, get_or, set, sym, refl, ap, ◌∙◌, subst, inl, inr, append_assoc, arith}
 use mathlib.Core.List.Memᴰ
 use mathlib.Core.List.{Memᴰ}
 use Rattle.std.proofs.lemmas.Bool.{cases_eq, le-leb}
 use Rattle.promise.specs.Bytes.{Bytes}
 use Rattle.promise.specs.Machine.{Machine}
-use Rattle.promise.specs.Desks.{From, Beat, Does, To, Tell, Lapse, Letter, Seen, told, posted, tells, at, Stand, there, World, Clocks, turned, hearing, lit, Goes, hears, beats, lights, Between, stay, talk, beat, light, Within, TwoMinutes}
+use Rattle.promise.specs.Desks.{From, Beat, Does, To, Tell, Lapse, Letter, Seen, told, posted, tells, Stand, there, World, Clocks, turned, hearing, lit, Goes, hears, beats, lights, Between, stay, talk, beat, light, Within, TwoMinutes}
 use Rattle.codec.specs.Messages.{Msg, Hello, Welcome, Request, Response}
 use Rattle.asking.specs.Lawful.{Lawful}
 use Rattle.asking.specs.House.{House, HouseTurn, peer_of, house_goes_on}

@@ -1,11 +1,11 @@
 -- One message for each call and one more, while nothing is lost or late.
-use Rattle.std.proofs.Common.{◌≡◌, ℕ, zero, suc, ◌+◌, ◌-◌, ◌<◌, ◌≤◌, max, Bool, true, false, cond, not, ◌&&◌, ◌||◌, eqb, leb, List, [], ◌∷◌, map, get_or, set, replicate, sym, refl, ap, ◌∙◌, subst, arith}
+use Rattle.std.proofs.Common.{◌≡◌, ℕ, zero, suc, ◌+◌, ◌≤◌, max, Bool, true, false, not, ◌&&◌, eqb, List, [], ◌∷◌, map, get_or, set, replicate, sym, refl, ap, ◌∙◌, arith}
 use Rattle.std.proofs.lemmas.Bool.{eqb-true, eqb-false, eq-eqb}
 use Rattle.promise.specs.Bytes.{Bytes}
-use Rattle.promise.specs.Desks.{From, Ask, Beat, Does, To, Tell, Lapse}
+use Rattle.promise.specs.Desks.{Does, To}
 use Rattle.codec.specs.Messages.{Msg, Hello, Welcome, Request, Response, Alive}
 use Rattle.asking.specs.House.{next64, eight, is_session}
-use Rattle.asking.specs.Desk.{Slot, Idle, Waiting, Desk, DeskTurn, desk_begins, Free, full, free, first_idle, none_waits, say_if, requests, sent_if, sent_now, unsent, unsent_now, not_sent, is_due, any_due, first_said, call_by, takes_call, shortened, adopts_by, with_session, sends_unsent, welcome_by, welcome, seq_by, slot_by, response_by, desk_hears, desk_from_by, alive_by, alive, tick_by}
+use Rattle.asking.specs.Desk.{Slot, Idle, Waiting, Desk, desk_begins, Free, full, free, first_idle, none_waits, say_if, requests, sent_if, sent_now, unsent, not_sent, is_due, first_said, call_by, takes_call, shortened, adopts_by, with_session, sends_unsent, welcome_by, seq_by, slot_by, response_by, desk_hears, desk_from_by, alive_by, tick_by}
 use Rattle.asking.specs.Code.{Settings, desk_turn}
 use Rattle.asking.specs.Sparing.{sent_in, OneSession, Undisturbed, begun, called, heard, ticked, OneForEachCall}
 

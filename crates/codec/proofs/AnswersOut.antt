@@ -1,11 +1,10 @@
 -- Answers as they are written.
-use Rattle.std.proofs.Common.{◌≡◌, ℕ, [], ◌∷◌, ◌++◌, length, sym, refl, ap, ◌∙◌}
+use Rattle.std.proofs.Common.{◌≡◌, ℕ, [], ◌∷◌, ◌++◌, length, sym, ap, ◌∙◌}
 use Rattle.std.proofs.lemmas.List.{append_assoc}
 use Rattle.promise.specs.Bytes.{Bytes, be}
 use Rattle.promise.specs.Sheets.{Found}
 use Rattle.promise.specs.Layout.{names_out, encode_reply}
 use Rattle.codec.specs.declared.answer.Answer.{Answer}
-use Rattle.codec.specs.declared.answer.Answer.TheVariants as a
 use Rattle.codec.specs.Answers.{names_of, reply_of, answer_kind, fields_out}
 
 -- an answer that has no names

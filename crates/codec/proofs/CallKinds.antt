@@ -1,5 +1,5 @@
 -- The first byte of a call.
-use Rattle.std.proofs.Common.{◌≡◌, ℕ, ◌≤◌, false, eqb, Some, None, sym, refl, ap, ◌∙◌, arith}
+use Rattle.std.proofs.Common.{◌≡◌, ℕ, ◌≤◌, false, eqb, Some, None, refl, ap, arith}
 use Rattle.std.proofs.lemmas.Bool.{ne_eqb}
 use Rattle.promise.specs.Bytes.{Bytes, bind, number_in}
 use Rattle.promise.specs.Layout.{call_in, decode_call}

@@ -1,9 +1,9 @@
 -- Calls that were written are read as they were.
-use Rattle.std.proofs.Common.{◌≡◌, ℕ, ◌^◌, ◌<◌, Bool, true, false, cond, eqb, List, [], ◌∷◌, ◌++◌, length, Some, None, Option, sym, refl, ap, ◌∙◌, lit<}
+use Rattle.std.proofs.Common.{◌≡◌, ℕ, ◌^◌, ◌<◌, Bool, true, false, cond, eqb, [], ◌++◌, length, Some, None, sym, ap, ◌∙◌, lit<}
 use Rattle.std.proofs.lemmas.List.{append-nil}
 use Rattle.promise.specs.Bytes.{Bytes, be, bind, number_in, lengthed_in, ended}
-use Rattle.promise.specs.Sheets.{Name, Expect, Any, Just', Call, Read, Put, Patch, Remove, Rename, Names, Take, LetGo}
-use Rattle.promise.specs.Layout.{name_out, bytes_out, expect_out, alone_out, expect_in, alone_in, read_in, put_in, patch_in, remove_in, rename_in, names_call_in, take_in, let_go_in, encode_call, decode_call}
+use Rattle.promise.specs.Sheets.{Name, Expect, Any, Just', Read, Put, Patch, Remove, Rename, Names, Take, LetGo}
+use Rattle.promise.specs.Layout.{name_out, bytes_out, expect_out, alone_out, expect_in, alone_in, read_in, put_in, patch_in, remove_in, rename_in, names_call_in, take_in, let_go_in, encode_call}
 use Rattle.codec.specs.Statements.{SayableExpect, CallsReadBack}
 use Rattle.codec.proofs.CallKinds.{by_kind}
 use Rattle.codec.proofs.Forms.{kind_back, number_back, lengthed_back}

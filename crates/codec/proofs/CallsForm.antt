@@ -1,8 +1,8 @@
 -- There is one way to write each call.
-use Rattle.std.proofs.Common.{◌≡◌, ℕ, ◌^◌, ◌<◌, Bool, true, false, cond, eqb, List, [], ◌∷◌, ◌++◌, length, Some, None, Option, sym, refl, ap, ◌∙◌, subst, ⊎_elim, arith}
+use Rattle.std.proofs.Common.{◌≡◌, ℕ, Bool, true, false, cond, eqb, ◌∷◌, ◌++◌, Some, None, sym, ap, ◌∙◌, subst, ⊎_elim, arith}
 use Rattle.std.proofs.lemmas.List.{append-nil}
 use Rattle.promise.specs.Bytes.{Bytes, be, bind, number_in, lengthed_in, ended}
-use Rattle.promise.specs.Sheets.{Name, Expect, Any, Just', Call, Read, Put, Patch, Remove, Rename, Names, Take, LetGo}
+use Rattle.promise.specs.Sheets.{Expect, Any, Just', Call, Read, Put, Patch, Remove, Rename, Names, Take, LetGo}
 use Rattle.promise.specs.Layout.{name_out, bytes_out, expect_out, alone_out, expect_in, alone_in, read_in, put_in, patch_in, remove_in, rename_in, names_call_in, take_in, let_go_in, call_in, encode_call, decode_call}
 use Rattle.codec.specs.Statements.{SayableExpect, SayableCall, CallsHaveOneForm}
 use Rattle.codec.proofs.Forms.{Small, small_all, bind_some, cond_some, kind_form, number_form, lengthed_form, ended_form}

@@ -1,6 +1,6 @@
 -- Frames that were written are read as they were, and there is one way to write each.
-use Rattle.std.proofs.Common.{◌≡◌, ℕ, ◌+◌, ◌^◌, ◌<◌, List, ◌++◌, length, Some, None, Option, sym, refl, ap, ◌∙◌, subst, arith}
-use Rattle.std.proofs.lemmas.List.{length-append, append_assoc}
+use Rattle.std.proofs.Common.{◌≡◌, ℕ, ◌+◌, ◌^◌, ◌<◌, ◌++◌, length, Some, sym, ap, ◌∙◌, subst}
+use Rattle.std.proofs.lemmas.List.{length-append}
 use Rattle.promise.specs.Bytes.{Bytes, be, bind, number_in, lengthed_in}
 use Rattle.promise.specs.Layout.{framed, frame_in}
 use Rattle.codec.specs.Statements.{FramesReadBack, FramesHaveOneForm}

@@ -1,5 +1,5 @@
 -- Names read one by one.
-use Rattle.std.proofs.Common.{◌≡◌, ℕ, suc, ◌+◌, ◌-◌, ◌<◌, Bool, false, cond, eqb, List, [], ◌∷◌, length, Some, None, Option, sym, refl, ap, ◌∙◌, arith}
+use Rattle.std.proofs.Common.{◌≡◌, ℕ, suc, ◌+◌, ◌-◌, ◌<◌, false, eqb, List, ◌∷◌, length, Some, None, Option, sym, refl, ap, ◌∙◌, arith}
 use Rattle.promise.specs.Bytes.{Bytes, bind, lengthed_in}
 use Rattle.promise.specs.Sheets.{Name}
 use Rattle.promise.specs.Layout.{names_in}

@@ -1,9 +1,9 @@
 -- Answers that were written are read as they were.
-use Rattle.std.proofs.Common.{◌≡◌, ℕ, ◌^◌, ◌<◌, List, [], ◌∷◌, ◌++◌, length, Some, None, Option, sym, refl, ap, ◌∙◌, lit<}
+use Rattle.std.proofs.Common.{◌≡◌, ℕ, ◌^◌, ◌<◌, List, [], ◌∷◌, ◌++◌, length, Some, sym, refl, ap, ◌∙◌, lit<}
 use Rattle.std.proofs.lemmas.List.{append-nil, append_assoc}
 use Rattle.promise.specs.Bytes.{Bytes, be, bind, number_in, lengthed_in, ended}
-use Rattle.promise.specs.Sheets.{Name, Reply, No, Yes, Edition, Got, Found}
-use Rattle.promise.specs.Layout.{name_out, bytes_out, names_out, names_in, no_in, yes_in, edition_in, got_in, found_in, reply_in, encode_reply, decode_reply}
+use Rattle.promise.specs.Sheets.{Name, No, Yes, Edition, Got, Found}
+use Rattle.promise.specs.Layout.{name_out, bytes_out, names_out, names_in, no_in, edition_in, got_in, found_in, reply_in, encode_reply, decode_reply}
 use Rattle.codec.specs.Statements.{ShortNames, none, more, RepliesReadBack}
 use Rattle.codec.proofs.Forms.{kind_back, number_back, lengthed_back}
 

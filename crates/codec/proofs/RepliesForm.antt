@@ -1,10 +1,10 @@
 -- There is one way to write each answer.
-use Rattle.std.proofs.Common.{◌≡◌, ℕ, ◌^◌, ◌<◌, Bool, true, false, cond, eqb, List, [], ◌∷◌, ◌++◌, length, Some, None, Option, sym, refl, ap, ◌∙◌, subst, ⊎_elim, arith}
+use Rattle.std.proofs.Common.{◌≡◌, ℕ, ◌^◌, ◌<◌, cond, eqb, ◌∷◌, ◌++◌, Some, None, sym, ap, ◌∙◌, subst, ⊎_elim, arith}
 use Rattle.std.proofs.lemmas.List.{append-nil}
 use Rattle.promise.specs.Bytes.{Bytes, be, bind, number_in, lengthed_in, ended}
-use Rattle.promise.specs.Sheets.{Name, Reply, No, Yes, Edition, Got, Found}
-use Rattle.promise.specs.Layout.{name_out, bytes_out, names_out, names_in, no_in, yes_in, edition_in, got_in, found_in, reply_in, encode_reply, decode_reply}
-use Rattle.codec.specs.Statements.{ShortNames, SayableReply, RepliesHaveOneForm}
+use Rattle.promise.specs.Sheets.{Reply, No, Yes, Edition, Got, Found}
+use Rattle.promise.specs.Layout.{bytes_out, names_out, names_in, no_in, yes_in, edition_in, got_in, found_in, reply_in, encode_reply, decode_reply}
+use Rattle.codec.specs.Statements.{SayableReply, RepliesHaveOneForm}
 use Rattle.codec.proofs.Forms.{Small, small_all, bind_some, cond_some, kind_form, number_form, lengthed_form, ended_form, names_form}
 
 no_form : (b : Bytes) (x : Reply) → Small b → no_in b ≡ Some x → (encode_reply x ≡ 0 ∷ b) × SayableReply x

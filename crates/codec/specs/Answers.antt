@@ -1,6 +1,6 @@
 -- The code's answers as those of the table.
 -- Assumes nothing.
-use Rattle.std.specs.Prelude.{◌≡◌, ℕ, ◌+◌, ◌^◌, ◌<◌, Bool, true, false, cond, List, [], ◌∷◌, ◌++◌, length, Some, None, Option, ◌==◌}
+use Rattle.std.specs.Prelude.{◌≡◌, ℕ, ◌+◌, ◌^◌, ◌<◌, Bool, true, false, cond, List, [], ◌++◌, length, Some, None, Option, ◌==◌}
 use Rattle.promise.specs.Bytes.{Bytes, be}
 use Rattle.promise.specs.Sheets as t
 use Rattle.promise.specs.Layout.{bytes_out, names_in}

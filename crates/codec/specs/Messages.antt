@@ -6,7 +6,7 @@
 --   4 Response: session (8), slot (1), seq (8), grant (8), answer    house to desk
 --   5 Alive: session (8)                                     desk to house
 -- Assumes nothing.
-use Rattle.std.specs.Prelude.{◌≡◌, ℕ, ◌+◌, ◌^◌, ◌<◌, Bool, true, false, cond, not, ◌&&◌, T, List, [], ◌∷◌, ◌++◌, length, Some, None, Option, ◌==◌}
+use Rattle.std.specs.Prelude.{◌≡◌, ℕ, ◌+◌, ◌^◌, ◌<◌, cond, not, T, ◌∷◌, ◌++◌, length, Some, None, Option, ◌==◌}
 use Rattle.promise.specs.Bytes.{Bytes, be, bind, number_in, ended, all_bytes}
 use Rattle.promise.specs.Layout.{is_busy}
 use Rattle.codec.specs.Sum.{sum_of}

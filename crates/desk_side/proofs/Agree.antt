@@ -1,21 +1,17 @@
 -- The code's slots beside their parts, and the model's slots that hold their calls.
-use Rattle.std.proofs.Common.{◌≡◌, ℕ, zero, suc, ◌+◌, ◌-◌, ◌<◌, Bool, true, false, cond, ◌||◌, leb, List, [], ◌∷◌, map, length, get_or, drop, set, sym, refl, ap, ◌∙◌, ap₂, arith}
+use Rattle.std.proofs.Common.{◌≡◌, ℕ, zero, suc, ◌+◌, ◌-◌, ◌<◌, Bool, true, false, cond, ◌||◌, leb, List, [], ◌∷◌, map, length, get_or, set, sym, refl, ap, ◌∙◌, ap₂, arith}
 use Rattle.promise.specs.Bytes.{Bytes, be}
-use Rattle.promise.specs.Desks as p
 use Rattle.codec.specs.Messages as c
 use Rattle.ids.specs.declared.Seq.{Seq}
 use Rattle.ids.specs.declared.Clock.{Clock}
 use Rattle.ids.specs.declared.CallNumber.{CallNumber}
-use Rattle.asking.specs.Code.{saying}
 use Rattle.asking.specs.Desk as m
 use Rattle.desk_side.specs.declared.slot.Slot.{Slot}
 use Rattle.desk_side.specs.declared.slot.Slot.TheVariants.{Idle, Waiting}
 use Rattle.desk_side.specs.declared.slot.Which.{Which}
-use Rattle.desk_side.specs.declared.slot.Which.TheVariants.{NotSent, Due}
-use Rattle.desk_side.specs.declared.output.Output.{Output}
-use Rattle.desk_side.specs.Slots.{passes, passing, sent_now, unsent, unsent_now, first_idle, all_idle, any_passes, blank}
+use Rattle.desk_side.specs.declared.slot.Which.TheVariants.{Due}
+use Rattle.desk_side.specs.Slots.{passes, sent_now, unsent, unsent_now, first_idle, all_idle, any_passes, blank}
 use Rattle.desk_side.specs.View.{call_in, slot_of, slots_of, first, rest, free_of}
-use Rattle.desk_side.specs.Outputs.{out_of, outs_of, asks_by, asks_of, sealed_by, sealed}
 
 pub first_idle_lem : (j : ℕ) (xs : List Slot) (ps : List Bytes) → m.first_idle j (slots_of xs ps) ≡ free_of (first_idle j xs)
 unfolding m.first_idle slots_of

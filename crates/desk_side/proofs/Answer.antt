@@ -1,5 +1,5 @@
 -- Where the answer stands in a Response.
-use Rattle.std.proofs.Common.{◌≡◌, ℕ, ◌+◌, ◌-◌, ◌≤◌, min, Bool, true, false, cond, eqb, ltb, List, [], ◌∷◌, length, take, drop, Some, None, Option, sym, refl, ap, ◌∙◌, arith, length-drop, rules, ltb-false}
+use Rattle.std.proofs.Common.{◌≡◌, ℕ, ◌-◌, ◌≤◌, min, Bool, true, false, cond, eqb, ltb, length, take, drop, Some, None, Option, sym, refl, ◌∙◌, arith, length-drop, ltb-false}
 use Rattle.std.proofs.lemmas.List.{take_all, drop-drop}
 use Rattle.promise.specs.Bytes.{Bytes, bind, number, number_in, ended}
 use Rattle.promise.specs.Layout.{is_busy}

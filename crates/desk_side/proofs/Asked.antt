@@ -1,12 +1,10 @@
 -- What is asked for, and what the memory then holds, as the model says it.
-use Rattle.std.proofs.Common.{◌≡◌, ℕ, zero, suc, ◌+◌, ◌<◌, ◌≤◌, Bool, true, false, cond, List, [], ◌∷◌, ◌++◌, map, length, get_or, drop, set, Some, None, Option, sym, refl, ap, ◌∙◌, ap₂, ⊎_elim, arith, below_more}
+use Rattle.std.proofs.Common.{◌≡◌, ℕ, suc, ◌+◌, ◌<◌, ◌≤◌, Bool, true, false, cond, List, [], ◌∷◌, ◌++◌, map, length, get_or, drop, set, Some, None, Option, sym, refl, ap, ◌∙◌, ap₂, arith, below_more}
 use Rattle.std.proofs.lemmas.List.{append-nil, append_assoc, at_drop_more, at_drop_all, get_or-set_same, get_or-set_other, set-get_or}
 use Rattle.promise.specs.Bytes.{Bytes}
 use Rattle.promise.specs.Desks as p
 use Rattle.codec.specs.Messages as c
 use Rattle.ids.specs.declared.Seq.{Seq}
-use Rattle.ids.specs.declared.Clock.{Clock}
-use Rattle.ids.specs.declared.CallNumber.{CallNumber}
 use Rattle.asking.specs.Code.{saying}
 use Rattle.asking.specs.Desk as m
 use Rattle.desk_side.specs.declared.slot.Slot.{Slot}
@@ -14,8 +12,8 @@ use Rattle.desk_side.specs.declared.slot.Slot.TheVariants.{Idle, Waiting}
 use Rattle.desk_side.specs.declared.slot.Which.{Which}
 use Rattle.desk_side.specs.declared.output.Output.{Output}
 use Rattle.desk_side.specs.Slots.{passes, passing, any_passes, blank}
-use Rattle.desk_side.specs.View.{call_in, slot_of, slots_of, first, rest}
-use Rattle.desk_side.specs.Outputs.{out_of, outs_of, asks_by, asks_of, sealed_by, sealed, Holds}
+use Rattle.desk_side.specs.View.{call_in, slots_of, first, rest}
+use Rattle.desk_side.specs.Outputs.{outs_of, asks_by, asks_of, sealed_by, sealed, Holds}
 use Rattle.desk_side.proofs.Agree.{get_or_first, get_or_rest, call_behind, slots_same}
 
 spoke_one : (t old : ℕ) (v r : Bool) (x : p.Does c.Msg) (ds : List (p.Does c.Msg)) → m.spoke_by t old ds ≡ cond r t old → m.spoke_by t old (m.say_if v x ds) ≡ cond (cond v true r) t old

@@ -1,11 +1,8 @@
 -- What a desk knows and does after a Welcome and a Response.
-use Rattle.std.proofs.Common.{◌≡◌, ℕ, ◌+◌, ◌<◌, Bool, true, false, cond, not, eqb, List, [], ◌∷◌, ◌++◌, map, length, get_or, take, drop, set, Some, None, vec_items, Option, sym, refl, ap, ◌∙◌, ap₂, arith}
+use Rattle.std.proofs.Common.{◌≡◌, ℕ, Bool, true, false, cond, eqb, List, [], map, get_or, Some, None, vec_items, Option, sym, refl, ap, ◌∙◌, arith}
 use Rattle.promise.specs.Bytes.{Bytes}
-use Rattle.promise.specs.Desks as p
 use Rattle.codec.specs.Messages as c
-use Rattle.ids.specs.declared.Clock.{Clock}
 use Rattle.ids.specs.declared.Seq.{Seq}
-use Rattle.ids.specs.declared.SlotId.{SlotId}
 use Rattle.ids.specs.declared.Nonce.{Nonce}
 use Rattle.ids.specs.declared.Session.{Session}
 use Rattle.ids.specs.declared.CallNumber.{CallNumber}
@@ -18,11 +15,11 @@ use Rattle.desk_side.specs.declared.slot.Slot.TheVariants.{Idle, Waiting}
 use Rattle.desk_side.specs.declared.slot.Which.TheVariants.{NotSent}
 use Rattle.desk_side.specs.declared.asking.Asking.{Asking}
 use Rattle.desk_side.specs.declared.desk.Desk.{Desk}
-use Rattle.desk_side.specs.Slots.{blank, unsent}
+use Rattle.desk_side.specs.Slots.{blank}
 use Rattle.desk_side.specs.Steps.{adopted, adopting, is_mine, waits_by, waits, settled}
-use Rattle.desk_side.specs.View.{slot_of, slots_of, desk_of}
+use Rattle.desk_side.specs.View.{slot_of, desk_of}
 use Rattle.desk_side.specs.Outputs.{outs_of}
-use Rattle.desk_side.specs.Desks.{desk_in, outs_in, Did, asks_all, heard}
+use Rattle.desk_side.specs.Desks.{desk_in, Did, asks_all, heard}
 use Rattle.desk_side.proofs.Agree.{map_unsent, slot_at, set_idle}
 
 -- the model's turn, said otherwise

@@ -1,19 +1,15 @@
 -- What a desk has said and what it knows then.
-use Rattle.std.proofs.Common.{◌≡◌, ℕ, ◌+◌, ◌<◌, Bool, true, false, cond, List, [], ◌∷◌, ◌++◌, map, length, get_or, set, sym, refl, ap, ◌∙◌, ap₂, ⊎_elim, arith}
+use Rattle.std.proofs.Common.{◌≡◌, ℕ, ◌<◌, Bool, true, false, cond, List, [], ◌∷◌, ◌++◌, map, length, get_or, set, sym, refl, ap, ◌∙◌, ap₂, ⊎_elim}
 use Rattle.std.proofs.lemmas.List.{get_or-set_same, get_or-set_other}
 use Rattle.std.proofs.lemmas.Bool.{cases_eq}
 use Rattle.promise.specs.Bytes.{Bytes}
 use Rattle.promise.specs.Desks as p
 use Rattle.codec.specs.Messages as c
 use Rattle.ids.specs.declared.Clock.{Clock}
-use Rattle.ids.specs.declared.Seq.{Seq}
-use Rattle.ids.specs.declared.SlotId.{SlotId}
 use Rattle.asking.specs.Code.{saying}
 use Rattle.asking.specs.Desk as m
-use Rattle.desk_side.specs.declared.slot.Slot.{Slot}
 use Rattle.desk_side.specs.declared.slot.Which.{Which}
 use Rattle.desk_side.specs.declared.output.Output.{Output}
-use Rattle.desk_side.specs.declared.output.Output.TheVariants.{Request}
 use Rattle.desk_side.specs.declared.asking.Asking.{Asking}
 use Rattle.desk_side.specs.Slots.{passes, sent_now, any_passes}
 use Rattle.desk_side.specs.Steps.{asked}

@@ -1,5 +1,5 @@
 -- A whole turn, and how a desk begins.
-use Rattle.std.proofs.Common.{◌≡◌, ℕ, Bool, true, false, eqb, List, map, length, replicate, Some, None, Option, sym, refl, ap, ◌∙◌, subst, eqb-true}
+use Rattle.std.proofs.Common.{◌≡◌, ℕ, Bool, true, false, eqb, List, map, Some, None, Option, sym, refl, ap, ◌∙◌, subst, eqb-true}
 use Rattle.promise.specs.Bytes.{Bytes}
 use Rattle.codec.specs.Messages.{Msg, decode_msg}
 use Rattle.ids.specs.declared.Clock.{Clock}

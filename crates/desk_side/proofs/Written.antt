@@ -1,5 +1,5 @@
 -- Messages written where there is room for them.
-use Rattle.std.proofs.Common.{◌≡◌, ℕ, ◌+◌, ◌≤◌, Bool, true, false, cond, List, [], ◌∷◌, ◌++◌, get_or, set, sym, refl, ap, ◌∙◌, ap₂, arith}
+use Rattle.std.proofs.Common.{◌≡◌, ℕ, ◌+◌, ◌≤◌, Bool, true, false, cond, List, [], ◌++◌, get_or, set, ◌∙◌, ap₂, arith}
 use Rattle.promise.specs.Bytes.{Bytes}
 use Rattle.codec.specs.Messages.{Msg, encode_msg, Request}
 use Rattle.messages.specs.Views.{message_size, MessageFits}

@@ -1,6 +1,6 @@
 -- A desk as the model has it, and what it does as the model says it.
 -- Assumes nothing.
-use Rattle.std.specs.Prelude.{◌≡◌, ℕ, Bool, cond, List, map, Some, None, vec_items, Option, ◌==◌, slice_index}
+use Rattle.std.specs.Prelude.{◌≡◌, ℕ, Bool, List, map, Some, None, vec_items, Option, ◌==◌, slice_index}
 use Rattle.codec.specs.Messages.{Msg}
 use Rattle.promise.specs.Bytes.{Bytes}
 use Rattle.promise.specs.Desks as p

@@ -6,7 +6,6 @@ use Rattle.promise.specs.Layout.{busy}
 use Rattle.promise.specs.Desks as p
 use Rattle.codec.specs.Messages as c
 use Rattle.ids.specs.declared.Seq.{Seq}
-use Rattle.ids.specs.declared.SlotId.{SlotId}
 use Rattle.desk_side.specs.declared.slot.Slot.{Slot}
 use Rattle.desk_side.specs.declared.slot.Which.{Which}
 use Rattle.desk_side.specs.declared.output.Output.{Output}

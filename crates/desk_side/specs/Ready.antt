@@ -1,6 +1,6 @@
 -- What the parts of a desk's memory are: eight, each for a Request with the longest call.
 -- Assumes nothing.
-use Rattle.std.specs.Prelude.{◌≡◌, ℕ, length}
+use Rattle.std.specs.Prelude.{◌≡◌, length}
 use Rattle.parts.specs.declared.lent.Parts.{Parts}
 use Rattle.parts.specs.View.{parts_in, head_of, size_of}
 

@@ -1,6 +1,6 @@
 -- The code's slots, without the calls that wait in them; each definition is that of asking's model, and is proved to agree with it.
 -- Assumes nothing.
-use Rattle.std.specs.Prelude.{ℕ, ◌+◌, ◌-◌, Bool, true, false, cond, not, ◌||◌, leb, List, [], ◌∷◌, Some, None, Option}
+use Rattle.std.specs.Prelude.{ℕ, ◌+◌, Bool, true, false, cond, List, [], ◌∷◌, Some, None, Option}
 use Rattle.ids.specs.declared.Seq.{Seq}
 use Rattle.ids.specs.declared.Clock.{Clock}
 use Rattle.asking.specs.Desk as m

@@ -1,6 +1,6 @@
 -- How the state of asking is changed, a step at a time.
 -- Assumes nothing.
-use Rattle.std.specs.Prelude.{ℕ, ◌-◌, Bool, true, false, cond, not, ◌&&◌, ◌||◌, List, map, replicate, Some, None, Option, ◌==◌, nat_le, slice_index_or, slice_set}
+use Rattle.std.specs.Prelude.{ℕ, ◌-◌, Bool, true, false, cond, not, ◌&&◌, ◌||◌, map, replicate, Some, None, Option, ◌==◌, nat_le, slice_index_or, slice_set}
 use Rattle.ids.specs.declared.Seq.{Seq}
 use Rattle.ids.specs.declared.SlotId.{SlotId}
 use Rattle.ids.specs.declared.Clock.{Clock}

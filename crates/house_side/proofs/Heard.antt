@@ -1,11 +1,10 @@
 -- What comes from a desk, or from nobody, as the model has it.
-use Rattle.std.proofs.Common.{◌≡◌, ℕ, Bool, true, false, ltb, List, [], Some, None, Option, sym, ap, ◌∙◌}
+use Rattle.std.proofs.Common.{◌≡◌, ℕ, Bool, true, false, ltb, List, [], Some, Option, sym, ap, ◌∙◌}
 use Rattle.promise.specs.Bytes.{Bytes}
-use Rattle.promise.specs.Machine.{Machine}
 use Rattle.promise.specs.Sheets.{State}
 use Rattle.promise.specs.Desks.{Does}
 use Rattle.codec.specs.Messages.{Msg, Hello, Welcome, Request, Response, Alive}
-use Rattle.asking.specs.House.{House, hello, request_by, eight, hearing, house_hears, house_from_by}
+use Rattle.asking.specs.House.{hello, request_by, eight, hearing, house_hears, house_from_by}
 use Rattle.sessions.specs.Desks.{is_desk}
 use Rattle.sessions.specs.Known.{Known, hearing_at}
 use Rattle.house_side.specs.Tables.{machine}

@@ -1,16 +1,16 @@
 -- The model's clauses at a hello and at a request, as what is known, the table and what is said.
-use Rattle.std.proofs.Common.{◌≡◌, ℕ, Bool, true, false, cond, not, ◌&&◌, eqb, ltb, List, [], ◌∷◌, map, sym, refl, ap, ◌∙◌}
+use Rattle.std.proofs.Common.{◌≡◌, ℕ, Bool, true, false, cond, eqb, ltb, List, [], ◌∷◌, map, sym, refl, ap, ◌∙◌}
 use Rattle.promise.specs.Bytes.{Bytes}
 use Rattle.promise.specs.Sheets.{State}
 use Rattle.promise.specs.Desks.{Does, To}
-use Rattle.codec.specs.Messages.{Msg, Welcome, Response, encode_msg}
+use Rattle.codec.specs.Messages.{Msg, Welcome, encode_msg}
 use Rattle.asking.specs.House.{House, HouseTurn, hello, hello_by, takes_up, takes_up_by, current, current_by, serve_by, change_by, new_change_by, request_by, slot_of, eight}
 use Rattle.asking.specs.Code.{saying}
-use Rattle.sessions.specs.Peers.{Admission, query, change, again, ignore, admission}
-use Rattle.sessions.specs.Known.{Known, welcomed, greeted, taking_up, is_taken_up, offering_to, peer_in, admitted, setting_peer}
+use Rattle.sessions.specs.Peers.{Admission, query, change, again, ignore}
+use Rattle.sessions.specs.Known.{Known, welcomed, greeted, taking_up, offering_to, peer_in, admitted, setting_peer}
 use Rattle.sessions.specs.Peers.{promoted}
-use Rattle.house_side.specs.Tables.{machine, reads, answer_to, after, leaves}
-use Rattle.house_side.specs.Houses.{house_of, turn_of, spoken, Spoken, taken_up, admitted_does, admitted_known, admitted_table}
+use Rattle.house_side.specs.Tables.{machine, reads, leaves}
+use Rattle.house_side.specs.Houses.{house_of, turn_of, spoken, taken_up, admitted_does, admitted_known, admitted_table}
 
 -- what the house says, in messages, and what it knows then
 abbrev saying_of : (room : ℕ) → State → Known → List (Does Msg) → HouseTurn (machine room)

@@ -1,5 +1,5 @@
 -- A response whose front was written before its answer.
-use Rattle.std.proofs.Common.{◌≡◌, ℕ, Bool, true, cond, ◌++◌, length, take, drop, sym, ap, ◌∙◌}
+use Rattle.std.proofs.Common.{◌≡◌, ℕ, Bool, true, cond, ◌++◌, length, take, drop, ap, ◌∙◌}
 use Rattle.std.proofs.lemmas.List.{take_at}
 use Rattle.promise.specs.Bytes.{Bytes}
 use Rattle.codec.specs.Messages.{Response, encode_msg}

@@ -1,6 +1,6 @@
 -- The house as the model has it, and what becomes of it at a request.
 -- Assumes nothing.
-use Rattle.std.specs.Prelude.{ℕ, Bool, cond, List, [], ◌∷◌, map, Some, None, Option}
+use Rattle.std.specs.Prelude.{ℕ, cond, List, [], ◌∷◌, map, Some, None, Option}
 use Rattle.promise.specs.Bytes.{Bytes}
 use Rattle.promise.specs.Sheets.{State}
 use Rattle.promise.specs.Desks.{Does, To}
@@ -9,7 +9,7 @@ use Rattle.asking.specs.House.{House, HouseTurn, house_from}
 use Rattle.asking.specs.Code.{saying}
 use Rattle.promise.specs.Machine.{Machine}
 use Rattle.sessions.specs.Peers.{Admission, query, change, again, ignore}
-use Rattle.sessions.specs.Known.{Known, is_taken_up, taking_up, keeping}
+use Rattle.sessions.specs.Known.{Known, is_taken_up, keeping}
 use Rattle.house_side.specs.Tables.{machine, answer_to, after, leaves}
 
 abbrev pub house_of : (room : ℕ) → State → Known → House (machine room)

@@ -1,6 +1,6 @@
 -- Who has lapsed at a tick, and what is left of the table then.
 -- Assumes nothing.
-use Rattle.std.specs.Prelude.{ℕ, zero, suc, ◌+◌, Bool, cond, List, [], ◌∷◌, map}
+use Rattle.std.specs.Prelude.{ℕ, zero, suc, ◌+◌, cond, List, [], ◌∷◌}
 use Rattle.promise.specs.Machine.{Machine}
 use Rattle.promise.specs.Sheets.{State}
 use Rattle.ids.specs.declared.DeskId.{DeskId}

@@ -1,6 +1,6 @@
 -- What a turn says, as the model has it.
 -- Assumes nothing.
-use Rattle.std.specs.Prelude.{ℕ, List, [], ◌∷◌, ◌++◌, map, Some, None, vec_items, Option}
+use Rattle.std.specs.Prelude.{List, [], ◌∷◌, ◌++◌, map, Some, None, vec_items, Option}
 use Rattle.promise.specs.Bytes.{Bytes}
 use Rattle.promise.specs.Desks.{Does, To, Lapse}
 use Rattle.ids.specs.declared.DeskId.{DeskId}

@@ -1,8 +1,8 @@
 -- What is turned away leaves the table as it was.
-use Rattle.std.proofs.Common.{◌≡◌, ℕ, ◌+◌, Bool, true, false, cond, not, ◌&&◌, ◌||◌, ltb, leb, List, [], ◌∷◌, length, refl, arith}
+use Rattle.std.proofs.Common.{◌≡◌, ℕ, Bool, List, [], ◌∷◌, refl, arith}
 use Rattle.std.proofs.lemmas.Bool.Decides.{nat_tests}
-use Rattle.promise.specs.Bytes.{Bytes, all_bytes}
-use Rattle.promise.specs.Sheets.{Name, Sheet, State, Out, Call, Read, Put, Patch, Remove, Rename, Names, Take, LetGo, Reply, No, Yes, Edition, Got, Found, Expect, no, does, reads, changes, patches, patched, set_to, removes, renames, takes, lets_go, find, is_sheet, put, weight, name_ok, bytes_ok}
+use Rattle.promise.specs.Bytes.{Bytes}
+use Rattle.promise.specs.Sheets.{Name, Sheet, State, Read, Put, Patch, Remove, Rename, Names, Take, LetGo, No, Expect, does, reads, changes, patches, patched, removes, renames, takes, lets_go, find, is_sheet}
 use Rattle.promise.specs.Promise.{TurnedAwayLeaves}
 
 -- whichever way its tests go

@@ -1,10 +1,9 @@
 -- Hands: what is emptied, and that holds agree.
-use Rattle.std.proofs.Common.{◌≡◌, ℕ, Bool, true, false, cond, not, ◌&&◌, ◌||◌, eqb, ◌⊎◌, List, [], ◌∷◌, sym, refl, ap, ◌∙◌, inl, inr, arith}
+use Rattle.std.proofs.Common.{◌≡◌, ℕ, Bool, true, false, cond, not, ◌&&◌, ◌||◌, eqb, List, [], ◌∷◌, sym, refl, ◌∙◌}
 use mathlib.Core.List.{Memᴰ}
-use Rattle.std.proofs.lemmas.Bool.{both_ways, and_parts, and_from, false≢true, eq-eqb, ne_eqb, eqb-true, not_from_false}
-use Rattle.std.proofs.lemmas.Bool.Decides.{nat_tests}
+use Rattle.std.proofs.lemmas.Bool.{and_parts, and_from, false≢true, ne_eqb, not_from_false}
 use Rattle.promise.specs.Bytes.{every}
-use Rattle.promise.specs.Sheets.{Name, Hold, State, keep, some, none, same, others, barred, not_its, leaves}
+use Rattle.promise.specs.Sheets.{Name, Hold, State, keep, none, same, others, barred, not_its}
 use Rattle.promise.specs.Promise.{agree, OnlyHands}
 use Rattle.laws.proofs.Kept.{keep_in, every_keep, some_in, none_not_in}
 

@@ -1,14 +1,14 @@
 -- Who holds a sheet finds it as it was, whatever others do.
-use Rattle.std.proofs.Common.{◌≡◌, ℕ, ◌+◌, Bool, true, false, cond, not, ◌&&◌, ◌||◌, T, eqb, leb, List, [], ◌∷◌, length, sym, refl, ap, ◌∙◌, subst, arith}
+use Rattle.std.proofs.Common.{◌≡◌, ℕ, Bool, true, false, cond, not, ◌&&◌, T, eqb, leb, List, [], ◌∷◌, sym, refl, ap, ◌∙◌, arith}
 use mathlib.Core.List.{Memᴰ}
-use Rattle.std.proofs.lemmas.Bool.{and_parts, and_from, false≢true, both_ways, ne_eqb, not_from_false}
+use Rattle.std.proofs.lemmas.Bool.{and_from, false≢true, ne_eqb, not_from_false}
 use Rattle.std.proofs.lemmas.Bool.Decides.{nat_tests}
 use Rattle.promise.specs.Bytes.{Bytes}
-use Rattle.promise.specs.Sheets.{Name, Sheet, Hold, State, Out, Call, Read, No, no, reads, less, same, keep, some, none, find, put, is_sheet, without, others, barred, not_its, name_ok, does, in_others_hand}
-use Rattle.promise.specs.Promise.{Run, HeldStays}
+use Rattle.promise.specs.Sheets.{Name, Sheet, Hold, State, Read, No, no, reads, less, same, keep, none, find, put, is_sheet, without, others, barred, not_its, name_ok, does, in_others_hand}
+use Rattle.promise.specs.Promise.{HeldStays}
 use Rattle.laws.proofs.Order.{less_same, same_self, same_is}
 use Rattle.laws.proofs.Kept.{keep_in, none_not_in, some_in}
-use Rattle.laws.proofs.Outcomes.{Kept, call_leaves, after_put, after_remove, after_rename, after_take, after_let_go, put_one, renamed, let_go_all}
+use Rattle.laws.proofs.Outcomes.{Kept, call_leaves, after_put, after_remove, after_rename, put_one, renamed, let_go_all}
 
 -- FINDING ANOTHER NAME
 

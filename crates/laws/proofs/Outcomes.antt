@@ -2,7 +2,7 @@
 use Rattle.std.proofs.Common.{◌≡◌, ℕ, ◌+◌, Bool, true, false, cond, not, ◌&&◌, ◌||◌, ltb, leb, List, [], ◌∷◌, length, refl}
 use Rattle.std.proofs.lemmas.Bool.{both_ways, and_parts}
 use Rattle.promise.specs.Bytes.{Bytes, all_bytes}
-use Rattle.promise.specs.Sheets.{Name, Sheet, Hold, State, Out, Call, Read, Put, Patch, Remove, Rename, Names, Take, LetGo, Reply, No, Yes, Edition, Found, Expect, no, some, none, keep, same, others, barred, its, not_its, as_expected, edition_of, find, is_sheet, put, without, weight, name_ok, bytes_ok, does, reads, changes, patches, patched, set_to, removes, renames, takes, lets_go, names_after}
+use Rattle.promise.specs.Sheets.{Name, Sheet, Hold, State, Out, Call, Read, Put, Patch, Remove, Rename, Names, Take, LetGo, Yes, Edition, Found, Expect, no, some, none, keep, same, others, barred, its, not_its, as_expected, edition_of, find, is_sheet, put, without, weight, name_ok, bytes_ok, does, reads, changes, patches, patched, removes, renames, takes, lets_go, names_after}
 
 -- the states that calls make
 

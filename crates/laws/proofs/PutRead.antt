@@ -1,9 +1,8 @@
 -- Reading gives what was put.
-use Rattle.std.proofs.Common.{◌≡◌, ℕ, ◌+◌, Bool, true, false, cond, not, ◌&&◌, ltb, leb, List, [], ◌∷◌, length, refl, ap, ◌∙◌, arith}
+use Rattle.std.proofs.Common.{◌≡◌, ℕ, ◌+◌, Bool, true, false, cond, not, ◌&&◌, leb, List, [], ◌∷◌, length, refl, ap, arith}
 use Rattle.std.proofs.lemmas.Bool.{le-leb}
-use Rattle.promise.specs.Bytes.{Bytes}
-use Rattle.promise.specs.Sheets.{Name, Sheet, Hold, State, Out, Call, Read, Put, Reply, No, Edition, Got, Expect, no, less, same, put, find, is_sheet, none, others, as_expected, edition_of, name_ok, bytes_ok, does, reads, first_of, drop_of}
-use Rattle.promise.specs.Promise.{PutThenRead, Run}
+use Rattle.promise.specs.Sheets.{Sheet, Hold, Out, Read, No, Edition, Got, no, less, put, find, is_sheet, none, others, as_expected, edition_of, name_ok, bytes_ok, does, reads, first_of, drop_of}
+use Rattle.promise.specs.Promise.{PutThenRead}
 use Rattle.laws.proofs.Order.{same_self}
 use Rattle.laws.proofs.Kept.{some_none}
 use Rattle.laws.proofs.Outcomes.{after_put, put_one, heavy}

@@ -1,9 +1,8 @@
 -- Sheets by rising names, and what they weigh.
-use Rattle.std.proofs.Common.{◌≡◌, ℕ, ◌+◌, ◌≤◌, Bool, true, false, cond, not, ◌&&◌, ◌||◌, List, [], ◌∷◌, length, sym, refl, ap, ◌∙◌, arith}
-use Rattle.std.proofs.lemmas.Bool.{and_parts, and_from, false≢true}
-use Rattle.std.proofs.lemmas.Bool.Decides.{nat_tests}
+use Rattle.std.proofs.Common.{◌≡◌, ℕ, ◌+◌, ◌≤◌, Bool, true, false, cond, not, ◌&&◌, List, [], ◌∷◌, length, sym, refl, ap, ◌∙◌, arith}
+use Rattle.std.proofs.lemmas.Bool.{and_parts, and_from}
 use Rattle.promise.specs.Bytes.{every}
-use Rattle.promise.specs.Sheets.{Name, Sheet, less, same, put, keep, find, is_sheet, without, weight}
+use Rattle.promise.specs.Sheets.{Name, Sheet, less, put, keep, find, is_sheet, without, weight}
 use Rattle.promise.specs.Promise.{rising}
 use Rattle.laws.proofs.Order.{less_trans, less_same}
 

@@ -1,14 +1,14 @@
 -- The table is tidy, whatever was called.
-use Rattle.std.proofs.Common.{◌≡◌, ℕ, zero, suc, ◌+◌, ◌-◌, ◌<◌, ◌≤◌, Bool, true, false, cond, not, ◌&&◌, ◌||◌, T, eqb, ltb, leb, List, [], ◌∷◌, ◌++◌, length, sym, refl, ap, ◌∙◌, subst, arith, length-append}
-use Rattle.std.proofs.lemmas.Bool.{and_parts, and_from, le-leb, lt-ltb, leb-true, ltb-false, cases_Bool}
+use Rattle.std.proofs.Common.{◌≡◌, ℕ, zero, suc, ◌+◌, ◌-◌, ◌≤◌, Bool, true, false, cond, not, ◌&&◌, T, eqb, ltb, leb, List, [], ◌∷◌, ◌++◌, length, refl, ap, arith, length-append}
+use Rattle.std.proofs.lemmas.Bool.{and_parts, and_from, le-leb, lt-ltb, leb-true, ltb-false}
 use Rattle.std.proofs.lemmas.Bool.Decides.{nat_tests}
 use Rattle.promise.specs.Bytes.{Bytes, every, all_bytes}
-use Rattle.promise.specs.Sheets.{Name, Sheet, Hold, State, keep, find, none, same, is_sheet, others, barred, not_its, without, put, weight, name_ok, bytes_ok, first_of, drop_of, patched, does, leaves}
+use Rattle.promise.specs.Sheets.{Name, Sheet, Hold, State, find, same, is_sheet, without, put, weight, name_ok, bytes_ok, first_of, drop_of, patched}
 use Rattle.promise.specs.Promise.{Run, laid, onward, emptied, rising, agree, Tidy}
 use Rattle.laws.proofs.Kept.{every_keep}
 use Rattle.laws.proofs.Rising.{rising_put, rising_keep, every_put, every_found, weight_keep, weight_put, weight_found}
 use Rattle.laws.proofs.Hands.{agree_keep, agree_taken}
-use Rattle.laws.proofs.Outcomes.{Kept, call_leaves, after_put, after_remove, after_rename, after_take, after_let_go, put_one, renamed, heavy}
+use Rattle.laws.proofs.Outcomes.{Kept, call_leaves, after_put, after_remove, after_rename, put_one, renamed, heavy}
 
 abbrev sound : Sheet → Bool
 sound x = name_ok x.name && bytes_ok x.bytes && ltb 0 x.edition

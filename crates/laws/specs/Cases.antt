@@ -1,7 +1,7 @@
 -- Worked cases: what calls by which desk are answered, one after the other, on a table that is empty at the beginning of each case.
 -- Assumes nothing.
-use Rattle.std.specs.Prelude.{◌≡◌, ℕ, Bool, true, false, cond, List, [], ◌∷◌, map, codes, ◌==◌}
-use Rattle.promise.specs.Sheets.{Name, State, blank, Call, Read, Put, Patch, Rename, Take, LetGo, Reply, No, Yes, Edition, Got, Any, Just', does, out_of_range, other_edition, in_others_hand}
+use Rattle.std.specs.Prelude.{◌≡◌, ℕ, false, cond, List, [], ◌∷◌, map, codes, ◌==◌}
+use Rattle.promise.specs.Sheets.{State, blank, Call, Read, Put, Patch, Rename, Take, LetGo, Reply, No, Yes, Edition, Got, Any, Just', does, out_of_range, other_edition, in_others_hand}
 
 pub record Row : Type 0 where
   pub case : ℕ

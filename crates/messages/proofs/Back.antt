@@ -1,12 +1,12 @@
 -- Messages that were written are read as they were.
-use Rattle.std.proofs.Common.{◌≡◌, ℕ, ◌+◌, ◌*◌, ◌/◌, ◌%◌, ◌^◌, ◌<◌, Bool, true, false, cond, not, T, eqb, List, [], ◌∷◌, ◌++◌, length, Some, None, Option, sym, refl, ap, ◌∙◌, arith, lit<}
+use Rattle.std.proofs.Common.{◌≡◌, ℕ, ◌+◌, ◌*◌, ◌/◌, ◌^◌, ◌<◌, Bool, true, false, cond, not, T, eqb, [], ◌∷◌, ◌++◌, length, Some, None, sym, refl, ap, ◌∙◌, arith, lit<}
 use lib.Bits.{bit_xor}
 use Rattle.std.proofs.lemmas.Nat.{mod_below}
 use Rattle.std.proofs.lemmas.List.{append-nil, length-append}
 use Rattle.std.proofs.lemmas.Bool.{eq-eqb}
 use Rattle.promise.specs.Bytes.{Bytes, be, bind, number_in, ended}
 use Rattle.promise.specs.Layout.{is_busy}
-use Rattle.codec.specs.Sum.{folded, mixed, joined, lane_to, sum_to, sum_of}
+use Rattle.codec.specs.Sum.{folded, mixed, lane_to, sum_to, sum_of}
 use Rattle.codec.specs.Messages.{Msg, Hello, Welcome, Request, Response, Alive, body_of, lengthed, summed, encode_msg, hello_in, welcome_in, alive_in, kind_in, body_in, lengthed_msg_in, decode_msg, Sayable, ReadsBack}
 use Rattle.codec.proofs.Numbers.{length_be}
 use Rattle.codec.proofs.Forms.{kind_back, number_back}

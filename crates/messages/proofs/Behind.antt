@@ -1,5 +1,5 @@
 -- A message laid out behind other bytes: what a program that did so knows.
-use Rattle.std.proofs.Common.{◌≡◌, ℕ, ◌+◌, ◌-◌, ◌^◌, ◌<◌, ◌≤◌, List, [], ◌∷◌, ◌++◌, length, take, drop, replicate, sym, refl, ap, ◌∙◌, arith, lit<}
+use Rattle.std.proofs.Common.{◌≡◌, ℕ, ◌+◌, ◌-◌, ◌^◌, ◌<◌, ◌≤◌, [], ◌++◌, length, take, drop, replicate, ap, ◌∙◌, arith, lit<}
 use Rattle.std.proofs.lemmas.List.{length-append, length-take-le, length-drop, length-replicate, drop_at, drop_all, take_at, take_rest, append-nil, append_assoc}
 use Rattle.promise.specs.Bytes.{Bytes}
 use Rattle.codec.specs.Messages.{Msg, Hello, Welcome, Request, Response, Alive}

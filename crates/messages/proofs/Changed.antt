@@ -1,15 +1,15 @@
 -- A message of which one word was changed is noise: no step of the sum loses anything.
-use Rattle.std.proofs.Common.{◌≡◌, ℕ, zero, suc, ◌+◌, ◌-◌, ◌*◌, ◌/◌, ◌%◌, ◌^◌, ◌<◌, ◌≤◌, ◌⊎◌, List, [], ◌∷◌, ◌++◌, length, get_or, take, drop, replicate, Some, None, Option, sym, refl, ap, ◌∙◌, subst, inl, inr, ⊎_elim, mod-eq_of_lt, div-add-mod', arith, lit<}
+use Rattle.std.proofs.Common.{◌≡◌, ℕ, zero, suc, ◌+◌, ◌-◌, ◌*◌, ◌/◌, ◌%◌, ◌^◌, ◌<◌, ◌≤◌, ◌⊎◌, [], ◌++◌, length, get_or, take, drop, replicate, sym, refl, ap, ◌∙◌, subst, inl, inr, ⊎_elim, mod-eq_of_lt, div-add-mod', arith, lit<}
 use native.Mathlib.Nat.{add-mul-mod_self_right}
 use lib.Bits.{bit_xor, xor_self, xor_zero_r, xor_assoc, xor_lt, xor_comm, xor_shr}
-use Rattle.std.proofs.lemmas.List.{length-append, length-replicate, length-take, length-drop, get_or_append_left, get_or-append_right, get_or-drop, get_or-take, ext_get_or, append_cancel_left, append_cancel_right, append_assoc, take-append-drop, take-append-le, drop-append-le, drop-drop, drop_at, nil_from_length}
+use Rattle.std.proofs.lemmas.List.{length-append, length-replicate, length-drop, get_or_append_left, get_or-append_right, get_or-drop, get_or-take, ext_get_or, append_cancel_left, append_cancel_right, take-append-drop, take-append-le, drop-append-le, drop-drop, drop_at, nil_from_length}
 use Rattle.std.proofs.lemmas.Bool.{cases_eq, cases_lt}
 use Rattle.promise.specs.Bytes.{Bytes, number, be}
 use Rattle.codec.specs.Sum.{word, folded, mixed, joined, lane_to, sum_to, sum_of}
-use Rattle.codec.specs.Messages.{Msg, decode_msg}
+use Rattle.codec.specs.Messages.{decode_msg}
 use Rattle.codec.proofs.Forms.{Small, small_all, small_drop, be_number, number_fits}
 use Rattle.messages.specs.Noise.{ChangedWordIsNoise}
-use Rattle.messages.proofs.Words.{eight, eight_same, get_or_zeros, word_is}
+use Rattle.messages.proofs.Words.{eight_same, get_or_zeros, word_is}
 use Rattle.messages.proofs.Back.{mixed_fits}
 use Rattle.messages.proofs.Cut.{Front, front_of, none_unless}
 

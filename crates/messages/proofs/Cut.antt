@@ -1,8 +1,8 @@
 -- The length that stands in a message, by which one that was cut or lengthened is noticed.
-use Rattle.std.proofs.Common.{◌≡◌, ℕ, ◌+◌, ◌<◌, ◌≤◌, min, Bool, true, false, cond, eqb, ltb, List, [], ◌∷◌, ◌++◌, length, take, drop, Some, None, Option, sym, refl, ap, ◌∙◌, subst, ⊎_elim, arith}
-use Rattle.std.proofs.lemmas.List.{length-append, length-take, length-drop, take-append-drop, take-append-le, drop-append-le}
+use Rattle.std.proofs.Common.{◌≡◌, ℕ, ◌≤◌, Bool, true, false, cond, eqb, ltb, ◌++◌, length, take, drop, Some, None, Option, sym, refl, ap, ◌∙◌, subst, ⊎_elim, arith}
+use Rattle.std.proofs.lemmas.List.{length-append, length-drop, take-append-drop, take-append-le, drop-append-le}
 use Rattle.std.proofs.lemmas.Bool.{ltb-false}
-use Rattle.promise.specs.Bytes.{Bytes, number, bind, number_in}
+use Rattle.promise.specs.Bytes.{Bytes, number, number_in}
 use Rattle.codec.specs.Sum.{sum_of}
 use Rattle.codec.specs.Messages.{Msg, encode_msg, body_in, lengthed_msg_in, decode_msg}
 use Rattle.codec.proofs.Forms.{bind_some, cond_some}

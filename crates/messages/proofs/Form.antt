@@ -1,5 +1,5 @@
 -- There is one way to write each message.
-use Rattle.std.proofs.Common.{◌≡◌, ℕ, zero, suc, ◌+◌, ◌^◌, ◌<◌, Bool, true, false, cond, not, ◌&&◌, T, eqb, ltb, List, [], ◌∷◌, ◌++◌, length, Some, None, Option, sym, refl, ap, ◌∙◌, subst, ⊎_elim, arith, lt→ltb}
+use Rattle.std.proofs.Common.{◌≡◌, ℕ, suc, ◌+◌, ◌^◌, ◌<◌, Bool, true, false, cond, not, ◌&&◌, T, eqb, ltb, [], ◌∷◌, ◌++◌, length, Some, None, sym, ap, ◌∙◌, subst, ⊎_elim, arith, lt→ltb}
 use Rattle.std.proofs.lemmas.List.{append-nil, length-append}
 use Rattle.promise.specs.Bytes.{Bytes, every, all_bytes, be, bind, number_in, ended}
 use Rattle.promise.specs.Layout.{is_busy}

@@ -1,5 +1,5 @@
 -- Messages laid out from the last field to the first: what a program that did so knows.
-use Rattle.std.proofs.Common.{◌≡◌, ℕ, ◌+◌, ◌-◌, ◌≤◌, List, [], ◌∷◌, ◌++◌, length, take, drop, sym, refl, ap, ◌∙◌, arith}
+use Rattle.std.proofs.Common.{◌≡◌, ℕ, ◌+◌, ◌-◌, ◌≤◌, ◌∷◌, ◌++◌, length, take, drop, sym, ap, ◌∙◌, arith}
 use Rattle.std.proofs.lemmas.List.{length-take-le, length-drop, drop_at, drop-drop, drop_all, take_rest, append-nil}
 use Rattle.promise.specs.Bytes.{Bytes, be}
 use Rattle.codec.specs.Sum.{sum_of}

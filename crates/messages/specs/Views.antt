@@ -1,6 +1,6 @@
 -- The code's messages as those that house and desks are said to send.
 -- Assumes nothing.
-use Rattle.std.specs.Prelude.{◌≡◌, ℕ, ◌+◌, ◌^◌, ◌<◌, Bool, true, false, [], length}
+use Rattle.std.specs.Prelude.{◌≡◌, ℕ, ◌+◌, ◌^◌, ◌<◌, false, [], length}
 use Rattle.std.specs.Borrow.{Bor}
 use Rattle.promise.specs.Bytes.{Bytes}
 use Rattle.promise.specs.Layout.{is_busy}

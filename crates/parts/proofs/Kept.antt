@@ -1,11 +1,10 @@
 -- What reading and writing one part says of the list of all.
-use Rattle.std.proofs.Common.{◌≡◌, ℕ, zero, suc, ◌+◌, ◌-◌, ◌*◌, ◌/◌, ◌%◌, ◌<◌, ◌≤◌, List, [], ◌∷◌, ◌++◌, length, get_or, take, drop, set, replicate, sym, refl, ap, ◌∙◌, ⊎_elim, add_assoc, mul-le-mul_right, suc-mul, mul_comm, add-mul, zero-mul, arith, rules}
+use Rattle.std.proofs.Common.{◌≡◌, ℕ, zero, suc, ◌+◌, ◌-◌, ◌*◌, ◌/◌, ◌<◌, ◌≤◌, List, [], ◌∷◌, length, get_or, take, drop, set, replicate, sym, refl, ap, ◌∙◌, ⊎_elim, suc-mul, mul_comm, add-mul, zero-mul, arith, rules}
 use lib.Seq.{paste}
-use Rattle.std.proofs.lemmas.List.{places, same_lists, length-set, length-append, length-take, get_or-set_same, get_or-set_other, get_or_past, set_past, ext_get_or, set-get_or, length-replicate, get_or-replicate}
-use Rattle.std.proofs.lemmas.Bool.{cases_eq, cases_lt, cases_order}
+use Rattle.std.proofs.lemmas.List.{places, same_lists, length-set, get_or-set_same, get_or-set_other, get_or_past, set_past, ext_get_or, set-get_or, length-replicate, get_or-replicate}
+use Rattle.std.proofs.lemmas.Bool.{cases_eq, cases_order}
 use Rattle.std.proofs.lemmas.Nat.{mul-le, div-add-mod'}
-use Rattle.std.proofs.lemmas.Bool.Decides.{nat_tests}
-use Rattle.parts.specs.Places.{parts_from, parts_of, Within, bodied, fitted}
+use Rattle.parts.specs.Places.{parts_from, parts_of, Within, bodied}
 
 -- part j ends before a later one begins
 pub rows_apart : (size j k : ℕ) → j < k → j * size + size ≤ k * size

@@ -1,7 +1,7 @@
 -- The house, which keeps what it knows when its power fails, and desks, which forget; their clocks; letters; and what is seen at all
 -- desks together. A call is a number and bytes, an answer is bytes; what a letter says is any type M, and bytes in the end.
 -- Assumes nothing.
-use Rattle.std.specs.Prelude.{◌≡◌, ℕ, zero, suc, ◌+◌, ◌*◌, ◌<◌, ◌≤◌, Bool, true, false, cond, not, ◌&&◌, ◌||◌, T, ◌⊎◌, List, [], ◌∷◌, ◌++◌, ◌==◌}
+use Rattle.std.specs.Prelude.{◌≡◌, ℕ, suc, ◌+◌, ◌*◌, ◌<◌, ◌≤◌, Bool, false, cond, not, ◌&&◌, ◌||◌, T, ◌⊎◌, List, [], ◌∷◌, ◌++◌, ◌==◌}
 use mathlib.Core.List.{Memᴰ}
 use Rattle.promise.specs.Bytes.{Bytes, all_bytes}
 use Rattle.promise.specs.Layout.{busy}

@@ -1,9 +1,9 @@
 -- What is promised of the whole, and of the table alone. Each is a type; a proof of the type is the theorem.
 -- Assumes nothing.
-use Rattle.std.specs.Prelude.{◌≡◌, ℕ, zero, suc, ◌+◌, ◌<◌, ◌≤◌, Bool, true, false, cond, not, ◌&&◌, ◌||◌, T, List, [], ◌∷◌, length, ◌==◌, ◌≢◌, nat_eq, nat_le, nat_lt}
+use Rattle.std.specs.Prelude.{◌≡◌, ℕ, ◌≤◌, Bool, true, not, ◌&&◌, ◌||◌, T, List, [], ◌∷◌, length, ◌==◌, ◌≢◌, nat_eq, nat_le, nat_lt}
 use mathlib.Core.List.{Memᴰ}
 use Rattle.promise.specs.Bytes.{Bytes, every}
-use Rattle.promise.specs.Sheets.{Name, Sheet, Hold, State, blank, keep, find, less, same, is_sheet, Expect, Call, Read, Put, Take, Reply, No, Yes, Got, Edition, does, leaves, core, any_call, bytes_ok, name_ok, weight, first_of, drop_of, in_others_hand}
+use Rattle.promise.specs.Sheets.{Name, Sheet, Hold, State, blank, keep, find, less, same, is_sheet, Expect, Call, Read, Put, Take, No, Yes, Got, Edition, does, leaves, core, any_call, bytes_ok, name_ok, weight, first_of, drop_of, in_others_hand}
 use Rattle.promise.specs.Layout.{encode_call, encode_reply}
 use Rattle.promise.specs.Machine.{Machine, Sure, sheets}
 use Rattle.promise.specs.Desks.{Code, OneTable, BusyAtNine, TwoMinutes, LapsesRightly, NotUntilMonday, SeenByMonday, SpeaksWhileHolding, PassesNoise}

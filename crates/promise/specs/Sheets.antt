@@ -1,7 +1,7 @@
 -- Sheets, by name, and who holds them; what every call does, by which desk. This is the table that everybody sees.
 -- Assumes nothing.
-use Rattle.std.specs.Prelude.{◌≡◌, ℕ, zero, suc, ◌+◌, Bool, true, false, cond, not, ◌&&◌, ◌||◌, List, [], ◌∷◌, ◌++◌, map, length, ◌==◌, nat_eq, nat_le, nat_lt}
-use Rattle.promise.specs.Bytes.{Bytes, every, all_bytes}
+use Rattle.std.specs.Prelude.{ℕ, zero, suc, ◌+◌, Bool, true, false, cond, not, ◌&&◌, ◌||◌, List, [], ◌∷◌, ◌++◌, map, length, ◌==◌, nat_eq, nat_le, nat_lt}
+use Rattle.promise.specs.Bytes.{Bytes, all_bytes}
 
 abbrev pub Name : Type 0
 Name = List ℕ

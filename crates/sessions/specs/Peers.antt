@@ -2,7 +2,7 @@
 -- Assumes nothing.
 use Rattle.std.specs.Prelude.{ℕ, Bool, cond, not, ◌&&◌, replicate, Some, None, Option, ◌==◌, nat_lt, slice_set}
 use Rattle.promise.specs.Bytes.{Bytes}
-use Rattle.asking.specs.House.{Peer, Done, unused, eight, slot_of, is_session}
+use Rattle.asking.specs.House.{Peer, unused, eight, slot_of, is_session}
 
 -- a session was given to this nonce
 abbrev pub is_for : (nonce givenTo session : ℕ) → Bool

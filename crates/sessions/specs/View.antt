@@ -1,6 +1,6 @@
 -- What the house knows of desks, as the model has it.
 -- Assumes nothing.
-use Rattle.std.specs.Prelude.{ℕ, List, [], map}
+use Rattle.std.specs.Prelude.{ℕ, [], map}
 use Rattle.promise.specs.Bytes.{Bytes}
 use Rattle.promise.specs.Sheets as t
 use Rattle.promise.specs.Layout.{encode_reply}

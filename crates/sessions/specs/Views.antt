@@ -1,6 +1,6 @@
 -- What the code knows of all desks, as the model has it.
 -- Assumes nothing.
-use Rattle.std.specs.Prelude.{ℕ, List, map}
+use Rattle.std.specs.Prelude.{ℕ, map}
 use Rattle.ids.specs.declared.Clock.{Clock}
 use Rattle.sessions.specs.declared.sessions.Sessions.{Sessions}
 use Rattle.sessions.specs.View.{peer_view}

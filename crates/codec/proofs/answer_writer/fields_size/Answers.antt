@@ -1,6 +1,5 @@
-use Rattle.std.proofs.Common.{sym, refl, ap, ◌∙◌, arith, rules}
+use Rattle.std.proofs.Common.{refl, arith, rules}
 use Rattle.promise.specs.Layout.{encode_reply}
-use Rattle.codec.specs.Answers.{AnswerFits, fields_size}
 use Rattle.codec.proofs.AnswersOut.{no_out, names_out_lem}
 use Rattle.codec.proofs.answer_writer.fields_size.Goals as goal
 

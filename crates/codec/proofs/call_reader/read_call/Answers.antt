@@ -1,4 +1,4 @@
-use Rattle.std.proofs.Common.{sym, ◌∙◌, rules}
+use Rattle.std.proofs.Common.{rules}
 use Rattle.codec.proofs.CallsBack.{calls_back}
 use Rattle.codec.proofs.CallsForm.{calls_form}
 use Rattle.codec.proofs.call_reader.read_call.Goals as goal

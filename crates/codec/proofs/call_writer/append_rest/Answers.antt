@@ -1,5 +1,5 @@
 use Rattle.std.proofs.Common.{rules}
-use Rattle.std.proofs.lemmas.List.{append_assoc, append-nil}
+use Rattle.std.proofs.lemmas.List.{append_assoc}
 use Rattle.codec.proofs.call_writer.append_rest.Goals as goal
 
 pub returns-in-Read : goal.returns-in-Read

@@ -1,4 +1,4 @@
-use Rattle.std.proofs.Common.{◌≡◌, ℕ, ◌≤◌, eqb, length, get_or, sym, refl, ap, ◌∙◌, arith, rules}
+use Rattle.std.proofs.Common.{ℕ, ◌≤◌, eqb, length, sym, ap, rules}
 use Rattle.std.proofs.lemmas.List.{get_or_past}
 use Rattle.desk_side.proofs.calls.may_grab.Goals as goal
 

@@ -1,5 +1,5 @@
-use Rattle.std.proofs.Common.{◌≡◌, ℕ, ◌<◌, ◌≤◌, List, [], length, take, drop, sym, ap, ◌∙◌, arith, rules}
-use Rattle.std.proofs.lemmas.List.{take_all, drop_all, places, same_lists}
+use Rattle.std.proofs.Common.{◌≡◌, ℕ, ◌<◌, List, [], length, take, drop, arith, rules}
+use Rattle.std.proofs.lemmas.List.{take_all, places, same_lists}
 use Rattle.desk_side.proofs.tells.cut.Goals as goal
 
 past : (b : List ℕ) (s n : ℕ) → length b < s → [] ≡ take n (drop s b)

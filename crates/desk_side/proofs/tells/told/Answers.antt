@@ -1,4 +1,4 @@
-use Rattle.std.proofs.Common.{◌≡◌, sym, refl, ap, ◌∙◌, rules}
+use Rattle.std.proofs.Common.{sym, ap, ◌∙◌}
 use Rattle.promise.specs.Bytes.{Bytes, be}
 use Rattle.promise.specs.Layout.{busy, encode_reply}
 use Rattle.promise.specs.Desks.{Tell}

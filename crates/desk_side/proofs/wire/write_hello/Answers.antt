@@ -1,4 +1,4 @@
-use Rattle.std.proofs.Common.{◌≡◌, true, is_ok, vec_items, vec_len, vec_capacity, ◌∙◌, arith, rules}
+use Rattle.std.proofs.Common.{◌≡◌, true, is_ok, vec_items, vec_len, vec_capacity, ◌∙◌, arith}
 use Rattle.codec.specs.Messages.{Hello}
 use Rattle.messages.specs.Views.{msg_of}
 use Rattle.desk_side.proofs.Written.{written, has_room}

@@ -1,4 +1,4 @@
-use Rattle.std.proofs.Common.{◌≡◌, List, map, refl, ap, ◌∙◌, arith, rules}
+use Rattle.std.proofs.Common.{List, map, refl, ap, ◌∙◌, arith, rules}
 use Rattle.ids.specs.declared.DeskId.{DeskId}
 use Rattle.house_side.specs.Lapses.{number, silent_from}
 use Rattle.house_side.proofs.Ticks.{silent_next}

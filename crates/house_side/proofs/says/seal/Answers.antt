@@ -1,4 +1,4 @@
-use Rattle.std.proofs.Common.{length, sym, ap, ◌∙◌, arith, rules}
+use Rattle.std.proofs.Common.{sym, arith, rules}
 use Rattle.house_side.proofs.Sealed.{sealed}
 use Rattle.house_side.proofs.says.seal.Goals as goal
 

@@ -1,4 +1,4 @@
-use Rattle.std.proofs.Common.{◌≡◌, ◌+◌, ◌*◌, ◌/◌, length, get_or, sym, ap, ◌∙◌, subst, arith}
+use Rattle.std.proofs.Common.{◌≡◌, ◌+◌, ◌/◌, length, get_or, sym, ap, ◌∙◌, subst, arith}
 use Rattle.messages.specs.Lanes.{LanesAt}
 use Rattle.messages.proofs.Words.{block_at, tail_at, lanes_more, sum_all}
 use Rattle.messages.proofs.sum.sum.Goals as goal

@@ -1,4 +1,4 @@
-use Rattle.std.proofs.Common.{◌≡◌, ◌^◌, ◌<◌, ◌++◌, length, take, drop, vec_items, vec_len, sym, ap, ◌∙◌, subst, arith, rules}
+use Rattle.std.proofs.Common.{◌^◌, ◌<◌, ◌++◌, length, take, drop, vec_items, vec_len, sym, ap, ◌∙◌, subst, arith, rules}
 use Rattle.messages.specs.Views.{msg_of, head_size, message_size}
 use Rattle.messages.proofs.Behind.{part_is, part_size, part_back}
 use Rattle.messages.proofs.writer.put_behind.Goals as goal

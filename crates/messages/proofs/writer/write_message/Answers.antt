@@ -1,6 +1,6 @@
-use Rattle.std.proofs.Common.{◌≡◌, ◌++◌, length, drop, vec_items, vec_len, sym, ap, ◌∙◌, arith, rules}
+use Rattle.std.proofs.Common.{◌≡◌, ◌++◌, length, drop, vec_items, sym, ap, ◌∙◌, arith, rules}
 use Rattle.codec.specs.Messages.{encode_msg}
-use Rattle.messages.specs.Views.{msg_of, head_size, payload}
+use Rattle.messages.specs.Views.{msg_of}
 use Rattle.messages.proofs.Behind.{room_then, fits_size}
 use Rattle.messages.proofs.writer.write_message.Goals as goal
 

@@ -1,4 +1,4 @@
-use Rattle.std.proofs.Common.{◌≡◌, ◌≤◌, length, sym, ap, rules}
+use Rattle.std.proofs.Common.{◌≤◌, length, sym, ap, rules}
 use Rattle.std.proofs.lemmas.List.{get_or_past}
 use Rattle.desk_side.specs.Slots.{blank}
 use Rattle.desk_side.specs.Steps.{waits_by}

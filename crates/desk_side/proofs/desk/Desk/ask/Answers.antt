@@ -1,4 +1,4 @@
-use Rattle.std.proofs.Common.{vec_items, refl, ap, ◌∙◌, rules}
+use Rattle.std.proofs.Common.{vec_items, refl, ap, ◌∙◌}
 use Rattle.parts.specs.View.{parts_in}
 use Rattle.desk_side.specs.declared.asking.Asking.{Asking}
 use Rattle.desk_side.specs.View.{desk_of}

@@ -1,6 +1,5 @@
-use Rattle.std.proofs.Common.{◌≡◌, List, vec_items, sym, refl, ap, ◌∙◌, rules}
+use Rattle.std.proofs.Common.{List, vec_items, sym, refl}
 use Rattle.promise.specs.Bytes.{Bytes}
-use Rattle.asking.specs.Desk as m
 use Rattle.parts.specs.View.{parts_in}
 use Rattle.desk_side.specs.declared.output.Output.TheVariants.{Busy}
 use Rattle.desk_side.specs.Desks.{desk_in}

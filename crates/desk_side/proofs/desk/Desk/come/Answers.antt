@@ -1,4 +1,4 @@
-use Rattle.std.proofs.Common.{◌≡◌, sym, refl, ap, ◌∙◌, rules}
+use Rattle.std.proofs.Common.{refl}
 use Rattle.codec.specs.Messages.{decode_msg}
 use Rattle.desk_side.specs.declared.output.Event.TheVariants as e
 use Rattle.desk_side.specs.Desks.{desk_in, settings}

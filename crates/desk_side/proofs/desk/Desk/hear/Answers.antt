@@ -1,4 +1,4 @@
-use Rattle.std.proofs.Common.{◌≡◌, ◌-◌, length, take, drop, Some, None, sym, refl, ap, ◌∙◌, rules}
+use Rattle.std.proofs.Common.{◌≡◌, ◌-◌, length, take, drop, Some, sym, refl, ap, ◌∙◌, rules}
 use Rattle.promise.specs.Bytes.{Bytes}
 use Rattle.codec.specs.Messages as k
 use Rattle.messages.specs.declared.message.Message.{Message}

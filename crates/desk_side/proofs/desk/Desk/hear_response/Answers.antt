@@ -1,4 +1,4 @@
-use Rattle.std.proofs.Common.{◌≡◌, true, false, take, drop, vec_items, sym, refl, ap, ◌∙◌, rules}
+use Rattle.std.proofs.Common.{◌≡◌, true, false, take, drop, vec_items, sym, refl, rules}
 use Rattle.asking.specs.House.{is_session}
 use Rattle.parts.specs.View.{parts_in}
 use Rattle.desk_side.specs.declared.output.Output.TheVariants.{Tell}

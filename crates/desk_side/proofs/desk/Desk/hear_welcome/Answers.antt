@@ -1,4 +1,4 @@
-use Rattle.std.proofs.Common.{sym, refl, ap, ◌∙◌, rules}
+use Rattle.std.proofs.Common.{refl, rules}
 use Rattle.parts.specs.View.{parts_in}
 use Rattle.desk_side.proofs.Heard.{did_as, did_still, welcome_mine, welcome_other}
 use Rattle.desk_side.proofs.desk.Desk.hear_welcome.Goals as goal

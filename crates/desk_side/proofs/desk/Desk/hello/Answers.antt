@@ -1,4 +1,4 @@
-use Rattle.std.proofs.Common.{[], ◌∷◌, vec_items, refl, ap, ◌∙◌, rules}
+use Rattle.std.proofs.Common.{[], ◌∷◌, vec_items, refl, ap, ◌∙◌}
 use Rattle.promise.specs.Bytes.{Bytes}
 use Rattle.promise.specs.Desks.{To}
 use Rattle.parts.specs.View.{parts_in}

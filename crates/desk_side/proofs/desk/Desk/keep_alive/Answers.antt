@@ -1,4 +1,4 @@
-use Rattle.std.proofs.Common.{◌≡◌, true, false, sym, refl, ap, ◌∙◌, rules}
+use Rattle.std.proofs.Common.{◌≡◌, true, refl, rules}
 use Rattle.parts.specs.View.{parts_in}
 use Rattle.desk_side.specs.Steps.{is_silent}
 use Rattle.desk_side.proofs.Heard.{did_still}

@@ -1,4 +1,4 @@
-use Rattle.std.proofs.Common.{◌≡◌, ◌<◌, length, vec_items, refl, ap, ◌∙◌, arith, rules}
+use Rattle.std.proofs.Common.{◌<◌, length, vec_items, refl, ◌∙◌, arith}
 use Rattle.parts.specs.View.{parts_in}
 use Rattle.desk_side.specs.declared.output.Output.TheVariants.{Request}
 use Rattle.desk_side.proofs.Said.{one_out, seal_says, seal_calls}

@@ -1,4 +1,4 @@
-use Rattle.std.proofs.Common.{◌≡◌, true, false, eqb, List, [], get_or, sym, refl, ap, ◌∙◌, rules}
+use Rattle.std.proofs.Common.{◌≡◌, true, false, eqb, List, [], get_or, refl, ap, rules}
 use Rattle.promise.specs.Bytes.{Bytes}
 use Rattle.promise.specs.Desks.{To}
 use Rattle.codec.specs.Messages as k

@@ -1,4 +1,4 @@
-use Rattle.std.proofs.Common.{◌≡◌, true, false, sym, refl, ap, ◌∙◌, rules}
+use Rattle.std.proofs.Common.{◌≡◌, true, false, rules}
 use Rattle.parts.specs.View.{parts_in}
 use Rattle.desk_side.specs.declared.slot.Which.TheVariants.{Due}
 use Rattle.desk_side.specs.Slots.{any_passes}

@@ -1,4 +1,3 @@
-use Rattle.std.proofs.Common.{rules}
 use Rattle.desk_side.specs.Desks.{desk_in, settings}
 use Rattle.desk_side.specs.Turns.{comes_of, came_of}
 use Rattle.desk_side.proofs.Turned.{as_model}

@@ -1,4 +1,4 @@
-use Rattle.std.proofs.Common.{◌≡◌, refl, ap, ◌∙◌, arith}
+use Rattle.std.proofs.Common.{refl, ap, ◌∙◌, arith}
 use Rattle.codec.specs.Sum.{mixed}
 use Rattle.messages.proofs.Words.{word_there}
 use Rattle.messages.proofs.sum.Lanes.mixed_with.Goals as goal

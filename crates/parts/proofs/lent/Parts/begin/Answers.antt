@@ -1,4 +1,4 @@
-use Rattle.std.proofs.Common.{◌/◌, vec_items, vec_len, refl, arith, rules}
+use Rattle.std.proofs.Common.{◌/◌, vec_items, refl, rules}
 use Rattle.parts.proofs.Kept.{parts_new, within_new, parts_fit}
 use Rattle.parts.proofs.lent.Parts.begin.Goals as goal
 

@@ -1,4 +1,4 @@
-use Rattle.std.proofs.Common.{◌≡◌, ◌+◌, ◌-◌, length, drop, set, vec_items, vec_len, arith, rules}
+use Rattle.std.proofs.Common.{◌≡◌, ◌-◌, length, drop, vec_items, vec_len, arith, rules}
 use Rattle.std.proofs.lemmas.List.{take_at}
 use Rattle.parts.specs.Places.{fitted}
 use Rattle.parts.proofs.Kept.{parts_bodied, parts_past, within_set, bodied_back, length_parts}

@@ -1,4 +1,4 @@
-use Rattle.std.proofs.Common.{◌≡◌, map, set, arith, rules}
+use Rattle.std.proofs.Common.{arith, rules}
 use lib.Seq.{map-set}
 use Rattle.sessions.specs.View.{done_view}
 use Rattle.sessions.proofs.Lists.{viewed_stays}
