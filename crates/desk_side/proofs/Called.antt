@@ -16,7 +16,7 @@ use Rattle.asking.specs.Desk as m
 use Rattle.parts.specs.Places.{fitted}
 use Rattle.desk_side.specs.declared.slot.Slot.{Slot}
 use Rattle.desk_side.specs.declared.slot.Slot.TheVariants.{Waiting}
-use Rattle.desk_side.specs.declared.asking.Asking.{Asking}
+use Rattle.desk_side.specs.declared.state.Asking.{Asking}
 use Rattle.desk_side.specs.Slots.{all_idle}
 use Rattle.desk_side.specs.Steps.{spoke_now, taken}
 use Rattle.desk_side.specs.View.{call_in, desk_of, slots_of}

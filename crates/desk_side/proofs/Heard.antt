@@ -13,7 +13,7 @@ use Rattle.parts.specs.View.{parts_in}
 use Rattle.desk_side.specs.declared.slot.Slot.{Slot}
 use Rattle.desk_side.specs.declared.slot.Slot.TheVariants.{Idle, Waiting}
 use Rattle.desk_side.specs.declared.slot.Which.TheVariants.{NotSent}
-use Rattle.desk_side.specs.declared.asking.Asking.{Asking}
+use Rattle.desk_side.specs.declared.state.Asking.{Asking}
 use Rattle.desk_side.specs.declared.desk.Desk.{Desk}
 use Rattle.desk_side.specs.Slots.{blank}
 use Rattle.desk_side.specs.Steps.{adopted, adopting, is_mine, waits_by, waits, settled}

@@ -10,7 +10,7 @@ use Rattle.asking.specs.Code.{saying}
 use Rattle.asking.specs.Desk as m
 use Rattle.desk_side.specs.declared.slot.Which.{Which}
 use Rattle.desk_side.specs.declared.output.Output.{Output}
-use Rattle.desk_side.specs.declared.asking.Asking.{Asking}
+use Rattle.desk_side.specs.declared.state.Asking.{Asking}
 use Rattle.desk_side.specs.Slots.{passes, sent_now, any_passes}
 use Rattle.desk_side.specs.Steps.{asked}
 use Rattle.desk_side.specs.View.{call_in, slots_of, desk_of}

@@ -7,7 +7,7 @@ use Rattle.ids.specs.declared.Clock.{Clock}
 use Rattle.asking.specs.Code.{saying}
 use Rattle.asking.specs.Desk as m
 use Rattle.desk_side.specs.declared.slot.Which.TheVariants.{Due}
-use Rattle.desk_side.specs.declared.asking.Asking.{Asking}
+use Rattle.desk_side.specs.declared.state.Asking.{Asking}
 use Rattle.desk_side.specs.Slots.{any_passes}
 use Rattle.desk_side.specs.Steps.{spoke_now, started_over, is_silent}
 use Rattle.desk_side.specs.View.{desk_of, slots_of}

@@ -10,7 +10,7 @@ use Rattle.ids.specs.declared.Session.{Session}
 use Rattle.desk_side.specs.declared.slot.Slot.{Slot}
 use Rattle.desk_side.specs.declared.slot.Slot.TheVariants.{Idle, Waiting}
 use Rattle.desk_side.specs.declared.slot.Which.{Which}
-use Rattle.desk_side.specs.declared.asking.Asking.{Asking}
+use Rattle.desk_side.specs.declared.state.Asking.{Asking}
 use Rattle.desk_side.specs.Slots.{sent_now, unsent, unsent_now, any_passes, blank}
 
 abbrev pub begun : Nonce → Clock → Asking

@@ -7,7 +7,7 @@ use Rattle.ids.specs.declared.SlotId.{SlotId}
 use Rattle.asking.specs.Desk as m
 use Rattle.desk_side.specs.declared.slot.Slot.{Slot}
 use Rattle.desk_side.specs.declared.slot.Slot.TheVariants.{Idle, Waiting}
-use Rattle.desk_side.specs.declared.asking.Asking.{Asking}
+use Rattle.desk_side.specs.declared.state.Asking.{Asking}
 
 -- the call that stands in a message
 abbrev pub call_in : (part : Bytes) → Bytes

@@ -5,9 +5,9 @@ ghost use Rattle.desk_side.specs.Outputs.{asks_by, asks_of, sealed, Holds};
 ghost use Rattle.desk_side.specs.Ready.{Ready};
 ghost use Rattle.desk_side.specs.Slots.{passing};
 
-use crate::asking::Asking;
 use crate::output::Output;
 use crate::slot::{Slot, Which};
+use crate::state::Asking;
 use crate::wire::seal;
 use ids::{Session, SlotId};
 use parts::lent::Parts;

@@ -1,9 +1,9 @@
 // How a desk begins.
 ghost use Rattle.desk_side.specs.Turns.{Begins};
 
-use crate::asking::Asking;
 use crate::desk::Desk;
 use crate::output::BeginError;
+use crate::state::Asking;
 use ids::{Clock, Nonce};
 use parts::lent::Parts;
 use std::alloc::Global;

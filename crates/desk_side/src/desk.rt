@@ -2,8 +2,8 @@
 ghost use Rattle.std.specs.Prelude.{ℕ, ◌≤◌, vec_capacity};
 ghost use Rattle.desk_side.specs.Ready.{Ready};
 
-use crate::asking::Asking;
 use crate::output::Output;
+use crate::state::Asking;
 use parts::lent::Parts;
 
 // retry: the retransmission time; parts: for each slot a Request, the head and then the slot's call; greeting: where Hello and Alive are

@@ -1,7 +1,6 @@
 // A desk: what it knows, and what it does at each thing that comes.
 #![tactic(auto)]
 
-mod asking;
 mod asks;
 mod begin;
 mod bytes;
@@ -12,6 +11,7 @@ pub mod output;
 mod says;
 mod slot;
 mod slots;
+mod state;
 mod tells;
 mod ticks;
 mod turn;

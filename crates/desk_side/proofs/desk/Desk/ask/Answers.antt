@@ -1,6 +1,6 @@
 use Rattle.std.proofs.Common.{vec_items, refl, ap, ◌∙◌}
 use Rattle.parts.specs.View.{parts_in}
-use Rattle.desk_side.specs.declared.asking.Asking.{Asking}
+use Rattle.desk_side.specs.declared.state.Asking.{Asking}
 use Rattle.desk_side.specs.View.{desk_of}
 use Rattle.desk_side.proofs.Said.{ask_knows, ask_does}
 use Rattle.desk_side.proofs.desk.Desk.ask.Goals as goal

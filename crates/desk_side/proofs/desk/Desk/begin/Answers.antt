@@ -1,7 +1,7 @@
 use Rattle.std.proofs.Common.{ℕ, length, replicate, refl, ap, ◌∙◌, arith, rules}
 use Rattle.std.proofs.lemmas.List.{length-replicate}
 use Rattle.parts.specs.View.{parts_in}
-use Rattle.desk_side.specs.declared.asking.Asking.{Asking}
+use Rattle.desk_side.specs.declared.state.Asking.{Asking}
 use Rattle.desk_side.specs.View.{desk_of}
 use Rattle.desk_side.proofs.Turned.{begins_so}
 use Rattle.desk_side.proofs.desk.Desk.begin.Goals as goal

@@ -1,7 +1,7 @@
 use Rattle.std.proofs.Common.{sym, ap, ◌∙◌, rules}
 use Rattle.desk_side.specs.View.{free_of}
 use Rattle.desk_side.proofs.Agree.{first_idle_lem}
-use Rattle.desk_side.proofs.asking.Asking.free.Goals as goal
+use Rattle.desk_side.proofs.state.Asking.free.Goals as goal
 
 pub returns-in-Some : goal.returns-in-Some
 returns-in-Some c = record {
