@@ -13,7 +13,7 @@ pub data Slot : Type 0 where
   Idle : (seq : ℕ) → Slot
   Waiting : (seq number : ℕ) → (call : Bytes) → (sent : Bool) → (first last : ℕ) → Slot
 
--- session: 0 for none; answered: in this incarnation; spoke: when it last said anything; mayHold: may it have something in hand
+-- session: 0 for none; answered: in this incarnation; spoke: when it last said anything; may_hold: may it have something in hand
 pub record Desk : Type 0 where
   pub nonce : ℕ
   pub session : ℕ
