@@ -1,6 +1,6 @@
 -- Where pieces begin, noted and sorted.
 use Rattle.std.proofs.Common.{◌≡◌, ℕ, ◌+◌, ◌<◌, ◌≤◌, false, ◌⊎◌, List, [], ◌∷◌, ◌++◌, length, get_or, Ordering, Less, sym, refl, ap, ◌∙◌, subst, inl, inr, ⊎_elim, arith}
-use Rattle.std.specs.Cmp.{nat_cmp_total, pairs}
+use Rattle.std.specs.Cmp.{nat_cmp_is}
 use Rattle.std.specs.Ordering.{is_lt, ordering_then, nat_cmp}
 use Rattle.std.specs.List.Sorted.{IsPermutation, IsSortedWithin}
 use Rattle.std.specs.List.{ContainsAt as Has, AllByRecursion as All}
@@ -25,7 +25,7 @@ firsts x y h = by (cases_lt y.0 x.0) where
   by : (y.0 < x.0) ⊎ (x.0 ≤ y.0) → x.0 ≤ y.0
   by (inr l) = l
   by (inl l) =
-      let e : Less ≡ nat_cmp y.0 x.0 = (nat_cmp_total.says y.0 x.0 Less l) in
+      let e : Less ≡ nat_cmp y.0 x.0 = nat_cmp_is y.0 x.0 Less l in
       absurd (false≢true (sym h ∙ sym (ap (λ (k : Ordering). is_lt (ordering_then k (nat_cmp y.1 x.1))) e)))
 
 RightIn : (hs : List Head) → ℕ × ℕ → Type 0

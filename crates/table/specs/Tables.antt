@@ -1,7 +1,7 @@
 -- What a table stands for, and what its answers say.
 -- Assumes nothing.
 use Rattle.std.specs.Prelude.{◌≡◌, ℕ, ◌+◌, ◌<◌, ◌≤◌, List, [], ◌∷◌, map, length, take, drop, Some, None, vec_items, vec_len, Option, slice_index_or}
-use Rattle.std.specs.Borrow.{Bor, MutBor}
+use Rattle.std.specs.Borrow.{Bor}
 use Rattle.promise.specs.Sheets as t
 use Rattle.codec.specs.Answers.{refusal_number}
 use Rattle.codec.specs.Calls.{expect_of}
@@ -38,7 +38,7 @@ reading_of (r.Stretch e w b) = t.Got e.0 w b.now
 reading_of (r.Names l) = t.Found (listed l)
 
 -- the name at an index, where there is one
-abbrev pub Named : t.State → ℕ → Option (MutBor t.Name) → Type 0
+abbrev pub Named : t.State → ℕ → Option (Bor t.Name) → Type 0
 Named s i None = length s.sheets ≤ i
 Named s i (Some n) = (i < length s.sheets) × (n.now ≡ (slice_index_or s.sheets i blank_sheet).name)
 

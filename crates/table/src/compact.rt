@@ -26,7 +26,7 @@ fn arrange(heads: &[Head], spots: &mut Vec<(usize, usize)>)
     ensures capacity { vec_capacity spots.new ≡ vec_capacity spots.old }
 {
     mark(heads, spots);
-    spots.sort();
+    spots.sort_unstable();
 }
 
 // Slides all pieces down in that order, and answers how much of the log is used then.

@@ -37,37 +37,19 @@ pub invariant_of-self : goal.invariant_of-self
 invariant_of-self c =
     let t = c.args.self.now in
     let a = after c in
-    let l = c.write_piece.ensures.len in (
-      omega (arith, c.requires.free, l),
-      (
-        laid_inside (vec_items t.heads) (vec_items c.enter.new.heads) t.used (t.used + length c.args.name.now + length c.args.bytes.now) c.args.place.index c.args.place.found (new_head t.used c.args.name.now c.args.bytes.now (t.changes + 1)) (omega arith) t.inside (new_below t.used c.args.name.now c.args.bytes.now (t.changes + 1) c.requires.named c.requires.narrow c.requires.small) c.enter.ensures.items,
-        (
-          laid_apart (vec_items t.heads) (vec_items c.enter.new.heads) t.used c.args.place.index c.args.place.found (new_head t.used c.args.name.now c.args.bytes.now (t.changes + 1)) (omega arith) t.inside t.pieces c.enter.ensures.items,
-          (
-            subst (λ (x : List Sheet). rising x ≡ true) (sym a) c.requires.sorted,
-            (
-              c.requires.weighed ∙ ap weight (sym a),
-              (
-                c.requires.light,
-                (
-                  t.small,
-                  (
-                    omega (arith, t.wide, l),
-                    (
-                      omega (arith, t.held, c.enter.ensures.capacity),
-                      (
-                        t.noted,
-                        (omega (arith, c.requires.counted), tt),
-                      ),
-                    ),
-                  ),
-                ),
-              ),
-            ),
-          ),
-        ),
-      ),
-    )
+    let l = c.write_piece.ensures.len in record {
+      filled = omega (arith, c.requires.free, l);
+      inside = laid_inside (vec_items t.heads) (vec_items c.enter.new.heads) t.used (t.used + length c.args.name.now + length c.args.bytes.now) c.args.place.index c.args.place.found (new_head t.used c.args.name.now c.args.bytes.now (t.changes + 1)) (omega arith) t.inside (new_below t.used c.args.name.now c.args.bytes.now (t.changes + 1) c.requires.named c.requires.narrow c.requires.small) c.enter.ensures.items;
+      pieces = laid_apart (vec_items t.heads) (vec_items c.enter.new.heads) t.used c.args.place.index c.args.place.found (new_head t.used c.args.name.now c.args.bytes.now (t.changes + 1)) (omega arith) t.inside t.pieces c.enter.ensures.items;
+      sorted = subst (λ (x : List Sheet). rising x ≡ true) (sym a) c.requires.sorted;
+      weighed = c.requires.weighed ∙ ap weight (sym a);
+      light = c.requires.light;
+      small = t.small;
+      wide = omega (arith, t.wide, l);
+      held = omega (arith, t.held, c.enter.ensures.capacity);
+      noted = t.noted;
+      counted = omega (arith, c.requires.counted);
+    }
 
 pub returns : goal.returns
 returns c =

@@ -9,8 +9,8 @@ use Rattle.table.proofs.Holds.{sound, within, within_vec}
 use Rattle.table.proofs.Laying.{filled_sheets, same_piece, rising_named}
 use Rattle.table.proofs.tables.Table.fill.Goals as goal
 
-pub index-mut-requires : goal.index-mut-requires
-index-mut-requires c = within_vec c.args.self.now c.args.i c.requires.within
+pub index_mut-requires : goal.index_mut-requires
+index_mut-requires c = within_vec c.args.self.now c.args.i c.requires.within
 
 abbrev new_head : Head → ℕ → ℕ → Head
 new_head h len e = record { at = h.at; width = h.width; len = len; size = h.size; edition = record { 0 = e } }
@@ -25,37 +25,19 @@ invariant_of-self c =
     (within t c.args.i c.requires.within) eh (sound t).inside t.pieces (omega (arith, c.requires.begun, el)) c.requires.whole (subst (λ (g : Head). c.args.len ≤ g.size) (sym eh) c.requires.fits) (omega (arith, c.requires.known, el)) c.overwrite.ensures.items) in
     let l = lies t.used h c.head-h.ensures.lies in
     let n = c.overwrite.ensures.len in
-    let f : c.args.len ≤ h.size = subst (λ (g : Head). c.args.len ≤ g.size) (sym eh) c.requires.fits in (
-      omega (arith, t.filled, n),
-      (
-        every_set (below t.used) (vec_items t.heads) c.args.i (new_head h c.args.len (t.changes + 1)) t.inside (below_from t.used (new_head h c.args.len (t.changes + 1)) (record { piece = l.piece; filled = f; named = l.named; narrow = l.narrow; short = l.short })),
-        (
-          same_piece (vec_items t.heads) c.args.i h (new_head h c.args.len (t.changes + 1)) (within t c.args.i c.requires.within) eh refl refl refl t.pieces,
-          (
-            subst (λ (x : List Sheet). rising x ≡ true) (sym a) (rising_named (state_of t).sheets c.args.i (filled_sheet (state_of t).sheets c.args.i c.args.offset c.args.bytes.now c.args.len (t.changes + 1)) refl ∙ t.sorted),
-            (
-              c.requires.weighed ∙ ap weight (sym a),
-              (
-                c.requires.light,
-                (
-                  t.small,
-                  (
-                    omega (arith, t.wide, n),
-                    (
-                      t.held,
-                      (
-                        t.noted,
-                        (omega (arith, c.requires.counted), tt),
-                      ),
-                    ),
-                  ),
-                ),
-              ),
-            ),
-          ),
-        ),
-      ),
-    )
+    let f : c.args.len ≤ h.size = subst (λ (g : Head). c.args.len ≤ g.size) (sym eh) c.requires.fits in record {
+      filled = omega (arith, t.filled, n);
+      inside = every_set (below t.used) (vec_items t.heads) c.args.i (new_head h c.args.len (t.changes + 1)) t.inside (below_from t.used (new_head h c.args.len (t.changes + 1)) (record { piece = l.piece; filled = f; named = l.named; narrow = l.narrow; short = l.short }));
+      pieces = same_piece (vec_items t.heads) c.args.i h (new_head h c.args.len (t.changes + 1)) (within t c.args.i c.requires.within) eh refl refl refl t.pieces;
+      sorted = subst (λ (x : List Sheet). rising x ≡ true) (sym a) (rising_named (state_of t).sheets c.args.i (filled_sheet (state_of t).sheets c.args.i c.args.offset c.args.bytes.now c.args.len (t.changes + 1)) refl ∙ t.sorted);
+      weighed = c.requires.weighed ∙ ap weight (sym a);
+      light = c.requires.light;
+      small = t.small;
+      wide = omega (arith, t.wide, n);
+      held = t.held;
+      noted = t.noted;
+      counted = omega (arith, c.requires.counted);
+    }
 
 pub returns : goal.returns
 returns c =

@@ -23,37 +23,19 @@ invariant_of-self c =
     let q = c.remove.ensures.items in
     let s = ap (sheets_of (vec_items t.log)) q ∙ sheets_removed (vec_items t.log) (vec_items t.heads) c.args.i in
     let w = weight_removed (state_of t).sheets c.args.i blank_sheet c.requires in
-    let z : weight (sheets_of (vec_items t.log) (vec_items c.remove.new.self)) ≡ weight (remove (state_of t).sheets c.args.i) = ap weight s in (
-      t.filled,
-      (
-        subst (λ (hs : List Head). every (below t.used) hs ≡ true) (sym q) (every_removed (below t.used) (vec_items t.heads) c.args.i t.inside),
-        (
-          subst (λ (hs : List Head). apart hs ≡ true) (sym q) (apart_removed (vec_items t.heads) c.args.i t.pieces),
-          (
-            subst (λ (x : List Sheet). rising x ≡ true) (sym s) (rising_removed (state_of t).sheets c.args.i t.sorted),
-            (
-              omega (arith, t.weighed, c.head-h.ensures.len),
-              (
-                omega (arith, t.light),
-                (
-                  t.small,
-                  (
-                    t.wide,
-                    (
-                      omega (arith, t.held, c.remove.ensures.capacity),
-                      (
-                        t.noted,
-                        (t.counted, tt),
-                      ),
-                    ),
-                  ),
-                ),
-              ),
-            ),
-          ),
-        ),
-      ),
-    )
+    let z : weight (sheets_of (vec_items t.log) (vec_items c.remove.new.self)) ≡ weight (remove (state_of t).sheets c.args.i) = ap weight s in record {
+      filled = t.filled;
+      inside = subst (λ (hs : List Head). every (below t.used) hs ≡ true) (sym q) (every_removed (below t.used) (vec_items t.heads) c.args.i t.inside);
+      pieces = subst (λ (hs : List Head). apart hs ≡ true) (sym q) (apart_removed (vec_items t.heads) c.args.i t.pieces);
+      sorted = subst (λ (x : List Sheet). rising x ≡ true) (sym s) (rising_removed (state_of t).sheets c.args.i t.sorted);
+      weighed = omega (arith, t.weighed, c.head-h.ensures.len);
+      light = omega (arith, t.light);
+      small = t.small;
+      wide = t.wide;
+      held = omega (arith, t.held, c.remove.ensures.capacity);
+      noted = t.noted;
+      counted = t.counted;
+    }
 
 pub returns : goal.returns
 returns c =

@@ -9,31 +9,16 @@ pub invariant_of-result : goal.invariant_of-result
 unfolding every rising weight apart
 invariant_of-result c =
     let m = c.in_ok-heads.ensures in
-    let log = c.in_ok-log.log in (
-      omega arith,
-      (
-        subst (λ (hs : List Head). every (below 0) hs ≡ true) (sym m.items) refl,
-        (
-          subst (λ (hs : List Head). apart hs ≡ true) (sym m.items) refl,
-          (
-            subst (λ (hs : List Head). rising (sheets_of (vec_items log) hs) ≡ true) (sym m.items) refl,
-            (
-              subst (λ (hs : List Head). ◌≡◌ {A = ℕ} 0 (weight (sheets_of (vec_items log) hs))) (sym m.items) refl,
-              (
-                omega arith,
-                (
-                  omega arith,
-                  (
-                    omega (arith, c.min-room.ensures, c.min.ensures, c.in_ok-log.ensures.made),
-                    (
-                      omega (arith, m.capacity),
-                      (omega (arith, c.in_ok-spots.ensures.capacity), (omega arith, tt)),
-                    ),
-                  ),
-                ),
-              ),
-            ),
-          ),
-        ),
-      ),
-    )
+    let log = c.in_ok-log.log in record {
+      filled = omega arith;
+      inside = subst (λ (hs : List Head). every (below 0) hs ≡ true) (sym m.items) refl;
+      pieces = subst (λ (hs : List Head). apart hs ≡ true) (sym m.items) refl;
+      sorted = subst (λ (hs : List Head). rising (sheets_of (vec_items log) hs) ≡ true) (sym m.items) refl;
+      weighed = subst (λ (hs : List Head). ◌≡◌ {A = ℕ} 0 (weight (sheets_of (vec_items log) hs))) (sym m.items) refl;
+      light = omega arith;
+      small = omega arith;
+      wide = omega (arith, c.min-room.ensures, c.min.ensures, c.in_ok-log.ensures.len);
+      held = omega (arith, m.capacity);
+      noted = omega (arith, c.in_ok-spots.ensures.capacity);
+      counted = omega arith;
+    }
