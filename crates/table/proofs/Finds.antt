@@ -4,7 +4,7 @@ use Rattle.std.specs.List.{insert, remove}
 use Rattle.std.proofs.lemmas.List.{drop_more, drop_all, set_split}
 use Rattle.std.proofs.lemmas.Bool.{and_parts, and_from, false≢true}
 use Rattle.promise.specs.Bytes.{every}
-use Rattle.promise.specs.Sheets.{Sheet, Name, less, find, is_sheet, same, put, keep, without}
+use Rattle.promise.specs.Sheets.{Sheet, Name, less, find, is_sheet, put, keep, without}
 use Rattle.table.specs.View.{rising, rank}
 use Rattle.table.proofs.Order.{less_trans, less_asym, less_same}
 

@@ -1,6 +1,6 @@
 -- What a table stands for, and what its answers say.
 -- Assumes nothing.
-use Rattle.std.specs.Prelude.{◌≡◌, ℕ, ◌+◌, ◌<◌, ◌≤◌, List, [], ◌∷◌, map, length, take, drop, Some, None, vec_items, vec_len, Option, slice_index_or}
+use Rattle.std.specs.Prelude.{◌≡◌, ℕ, ◌+◌, ◌<◌, ◌≤◌, List, [], ◌∷◌, map, length, take, drop, Some, None, vec_items, Option, slice_index_or}
 use Rattle.std.specs.Borrow.{Bor}
 use Rattle.promise.specs.Sheets as t
 use Rattle.codec.specs.Answers.{refusal_number}

@@ -1,6 +1,6 @@
 -- What sheets a log and the heads over it stand for.
 -- Assumes nothing.
-use Rattle.std.specs.Prelude.{◌≡◌, ℕ, zero, suc, ◌+◌, ◌/◌, ◌<◌, ◌≤◌, min, Bool, true, false, cond, ◌&&◌, ◌||◌, List, [], ◌∷◌, map, length, get_or, take, drop, nat_le, slice_index_or, slice_set}
+use Rattle.std.specs.Prelude.{◌≡◌, ℕ, zero, suc, ◌+◌, ◌/◌, ◌<◌, ◌≤◌, min, Bool, true, cond, ◌&&◌, ◌||◌, List, [], ◌∷◌, map, length, get_or, take, drop, nat_le, slice_index_or, slice_set}
 use Rattle.std.specs.List.{insert, remove}
 use Rattle.promise.specs.Bytes.{every}
 use Rattle.promise.specs.Sheets.{Sheet, Name, less, find, is_sheet, put, keep, without, patched}
