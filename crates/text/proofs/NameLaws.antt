@@ -1,10 +1,10 @@
 -- A name that is written is read again, and what was read is written as it stood.
-use Rattle.std.proofs.Common.{◌≡◌, ℕ, ◌+◌, ◌-◌, ◌*◌, ◌/◌, ◌%◌, ◌<◌, ◌≤◌, Bool, true, false, cond, ◌&&◌, eqb, ltb, leb, List, [], ◌∷◌, ◌++◌, length, Some, None, codes, Option, sym, refl, ap, ◌∙◌, arith, ne_eqb, eqb-true}
+use Rattle.std.proofs.Common.{◌≡◌, ℕ, ◌+◌, ◌-◌, ◌*◌, ◌/◌, ◌%◌, ◌<◌, ◌≤◌, Bool, true, false, cond, ◌&&◌, eqb, [], ◌∷◌, ◌++◌, length, Some, None, codes, Option, sym, refl, ap, ◌∙◌, arith, ne_eqb, eqb-true}
 use Rattle.std.specs.Str.{bytes_eq}
 use Rattle.std.proofs.lemmas.Slice.Eq.{bytes_eq-Decides}
 use Rattle.promise.specs.Bytes.{Bytes, bind, all_bytes}
 use Rattle.text.specs.Hex.{hex_digit, hex_value}
-use Rattle.text.specs.Names.{is_plain, numbered, escape, escaped, name_text, unseen_step, or_malformed, name_step, name_end, stepped, name_from, name_in, Sound}
+use Rattle.text.specs.Names.{is_plain, numbered, escape, escaped, name_text, unseen_step, or_malformed, stepped, name_from, name_in, Sound}
 use Rattle.text.specs.declared.name.Pending.{Pending}
 use Rattle.text.specs.declared.name.Pending.TheVariants.{Nothing, Percent, High}
 use Rattle.text.specs.declared.name.Step.{Step}

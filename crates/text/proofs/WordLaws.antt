@@ -1,7 +1,7 @@
 -- Words behind single spaces: what was split is joined as it stood, and words that are joined are split again.
-use Rattle.std.proofs.Common.{◌≡◌, ℕ, suc, ◌+◌, ◌<◌, ◌≤◌, Bool, true, false, cond, ◌&&◌, eqb, List, [], ◌∷◌, ◌++◌, length, get_or, take, drop, Some, None, Option, sym, refl, ap, ◌∙◌, arith, eq-eqb, ne_eqb, eqb-true}
-use Rattle.std.proofs.lemmas.List.{take-append-drop, take_at, drop_at}
-use Rattle.promise.specs.Bytes.{Bytes, bind}
+use Rattle.std.proofs.Common.{◌≡◌, ℕ, Bool, true, false, cond, eqb, [], ◌∷◌, ◌++◌, take, drop, Some, None, Option, sym, refl, ap, ◌∙◌, arith, eqb-true}
+use Rattle.std.proofs.lemmas.List.{take-append-drop}
+use Rattle.promise.specs.Bytes.{Bytes}
 use Rattle.text.specs.Words.{word_len, first_in, word_in, spaced}
 
 -- what was split is joined as it stood

@@ -1,6 +1,6 @@
 -- The laws of reading and writing words: what was read is written as it stood, and what is written is read again.
 -- Assumes nothing.
-use Rattle.std.specs.Prelude.{◌≡◌, ℕ, ◌≤◌, true, length, Some, None, Option}
+use Rattle.std.specs.Prelude.{◌≡◌, ℕ, ◌≤◌, true, length, Some, Option}
 use Rattle.promise.specs.Bytes.{Bytes, all_bytes}
 use Rattle.text.specs.Decimals.{decimal_in, decimal_text}
 use Rattle.text.specs.Hex.{hex_in, hex_text}

@@ -1,6 +1,6 @@
 -- Words, with one space between them.
 -- Assumes nothing.
-use Rattle.std.specs.Prelude.{ℕ, suc, Bool, cond, List, [], ◌∷◌, length, take, drop, Some, None, Option, ◌==◌, slice_index}
+use Rattle.std.specs.Prelude.{ℕ, suc, cond, [], ◌∷◌, take, drop, Some, None, Option, ◌==◌, slice_index}
 use Rattle.std.specs.Borrow.{Bor}
 use Rattle.promise.specs.Bytes.{Bytes}
 

@@ -1,4 +1,3 @@
-use Rattle.std.proofs.Common.{rules}
 use Rattle.text.proofs.HexLaws.{hex_line}
 use Rattle.text.proofs.hex.read_hex.Goals as goal
 

@@ -1,4 +1,4 @@
-use Rattle.std.proofs.Common.{◌≡◌, ◌+◌, ◌-◌, vec_items, vec_len, vec_capacity, sym, ap, ◌∙◌, subst, arith, rules}
+use Rattle.std.proofs.Common.{◌≡◌, ◌+◌, ◌-◌, vec_items, vec_len, vec_capacity, sym, ap, ◌∙◌, subst, arith}
 use Rattle.text.specs.Names.{Sound}
 use Rattle.text.proofs.NameLoop.{name_on, name_add, name_malformed, name_full, name_whole, name_cut}
 use Rattle.text.proofs.name.read_escaped.Goals as goal
