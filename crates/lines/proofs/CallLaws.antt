@@ -1,8 +1,8 @@
 -- What was read of a call's line is written as it stood.
-use Rattle.std.proofs.Common.{◌≡◌, ℕ, ◌^◌, ◌<◌, Bool, true, false, cond, eqb, List, [], ◌∷◌, ◌++◌, length, Some, None, codes, Option, sym, refl, ap, ◌∙◌, arith, eqb-true}
+use Rattle.std.proofs.Common.{◌≡◌, ℕ, ◌^◌, ◌<◌, Bool, true, false, cond, eqb, [], ◌++◌, length, Some, None, codes, Option, sym, refl, ap, ◌∙◌, arith, eqb-true}
 use Rattle.std.specs.Str.{bytes_eq}
 use Rattle.std.proofs.lemmas.Slice.Eq.{bytes_eq-Decides}
-use Rattle.std.proofs.lemmas.List.{append-nil, nil_from_length}
+use Rattle.std.proofs.lemmas.List.{nil_from_length}
 use Rattle.promise.specs.Bytes.{Bytes, bind, ended}
 use Rattle.promise.specs.Sheets as t
 use Rattle.text.specs.Decimals.{decimal_in, decimal_text}
@@ -13,7 +13,7 @@ use Rattle.text.proofs.NumeralLaws.{decimal_line}
 use Rattle.text.proofs.HexLaws.{hex_line}
 use Rattle.text.proofs.NameLaws.{name_line}
 use Rattle.text.proofs.WordLaws.{word_line}
-use Rattle.lines.specs.Fields.{word_as, number_word, name_word, hex_word, expect_in, expect_word, expect_text}
+use Rattle.lines.specs.Fields.{number_word, name_word, hex_word, expect_in, expect_word, expect_text}
 use Rattle.lines.specs.CallLines.{most16, most32, read_line, put_line, patch_line, remove_line, rename_line, names_line, take_line, let_line}
 use Rattle.lines.specs.EventTexts.{call_text}
 use Rattle.lines.proofs.Inverse.{some_bind, ended_is, as_line, as_last}

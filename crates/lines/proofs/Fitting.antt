@@ -1,5 +1,5 @@
 -- What a reader into a buffer says where there is room.
-use Rattle.std.proofs.Common.{◌≡◌, ℕ, ◌≤◌, Bool, true, false, cond, leb, is_ok, Some, None, Ok, Err, Option, Result, sym, refl, ap, ◌∙◌, arith, le-leb}
+use Rattle.std.proofs.Common.{◌≡◌, ℕ, ◌≤◌, Bool, cond, leb, is_ok, Some, None, Ok, Err, Option, Result, refl, ap, ◌∙◌, arith, le-leb}
 use Rattle.std.specs.Option.{ok_or}
 use Rattle.promise.specs.Bytes.{Bytes}
 use Rattle.text.specs.Readings.{kept, read_as}

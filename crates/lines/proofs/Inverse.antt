@@ -1,5 +1,5 @@
 -- What it says that a reader made of others has read something.
-use Rattle.std.proofs.Common.{◌≡◌, ℕ, Bool, true, false, cond, eqb, List, [], ◌∷◌, ◌++◌, length, Some, None, Ok, Err, Option, Result, sym, refl, ap, ◌∙◌, arith, eqb-true}
+use Rattle.std.proofs.Common.{◌≡◌, ℕ, Bool, true, false, cond, eqb, [], ◌++◌, length, Some, None, Ok, Err, Option, Result, sym, refl, ap, ◌∙◌, arith, eqb-true}
 use Rattle.std.specs.Option.{ok_or as okOr}
 use Rattle.std.proofs.lemmas.List.{append-nil, nil_from_length}
 use Rattle.promise.specs.Bytes.{Bytes, bind, ended}

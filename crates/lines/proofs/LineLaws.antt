@@ -1,10 +1,10 @@
 -- What was read of a line is written as it stood.
-use Rattle.std.proofs.Common.{◌≡◌, ℕ, ◌^◌, ◌<◌, Bool, true, false, cond, eqb, List, [], ◌∷◌, ◌++◌, length, Some, None, Ok, Err, codes, Option, Result, sym, refl, ap, ◌∙◌, subst, arith}
+use Rattle.std.proofs.Common.{◌≡◌, ℕ, Bool, true, false, cond, [], ◌++◌, Some, None, Ok, Err, codes, Option, Result, sym, refl, ap, ◌∙◌, subst, arith}
 use Rattle.std.specs.Str.{bytes_eq}
 use Rattle.std.specs.Option.{ok_or as okOr}
 use Rattle.std.proofs.lemmas.Slice.Eq.{bytes_eq-Decides}
-use Rattle.std.proofs.lemmas.List.{append-nil, append_assoc}
-use Rattle.promise.specs.Bytes.{Bytes, bind}
+use Rattle.std.proofs.lemmas.List.{append-nil}
+use Rattle.promise.specs.Bytes.{Bytes}
 use Rattle.promise.specs.Sheets as t
 use Rattle.text.specs.Decimals.{decimal_in, decimal_text}
 use Rattle.text.specs.Hex.{hex_in, hex_text}
@@ -16,7 +16,7 @@ use Rattle.lines.specs.CallLines.{verb_in, call_line}
 use Rattle.lines.specs.Events.{Event, Clock, From, Beat, Light, Sync, Asked, most64, most_clock, and_then, last_word, needed, all_seen, clock_line, from_line, sync_line, plain_line, house_line, asked_in, asked_or, desk_line}
 use Rattle.lines.specs.EventTexts.{call_text, event_text, HasText, WrittenBack}
 use Rattle.lines.specs.declared.error.LineError.{LineError}
-use Rattle.lines.specs.declared.error.LineError.TheVariants.{UnknownWord, MissingWord, ExtraWord, BadNumber, BadHex, BadWord}
+use Rattle.lines.specs.declared.error.LineError.TheVariants.{MissingWord, BadNumber, BadHex, BadWord}
 use Rattle.lines.specs.declared.shape.Verb.{Verb}
 use Rattle.lines.specs.declared.shape.Verb.TheVariants as v
 use Rattle.lines.proofs.Inverse.{some_bind, ok_then, ok_or, last_is}

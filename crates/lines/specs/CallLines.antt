@@ -1,12 +1,11 @@
 -- Calls as lines, behind the call's number and its verb. None where the line cannot be put into bytes.
 -- Assumes nothing.
-use Rattle.std.specs.Prelude.{ℕ, Bool, true, false, cond, List, [], ◌∷◌, ◌++◌, length, Some, None, vec_items, codes, Option, ◌==◌}
+use Rattle.std.specs.Prelude.{ℕ, true, false, cond, length, Some, None, vec_items, codes, Option, ◌==◌}
 use Rattle.std.specs.Str.{bytes_eq}
-use Rattle.std.specs.Option.{option_map}
 use Rattle.promise.specs.Bytes.{Bytes, bind, ended}
 use Rattle.promise.specs.Sheets as t
 use Rattle.codec.specs.Calls.{expect_of}
-use Rattle.text.specs.Words.{word_in, spaced}
+use Rattle.text.specs.Words.{word_in}
 use Rattle.lines.specs.Fields.{number_word, name_word, hex_word, expect_word}
 use Rattle.lines.specs.declared.shape.Verb.{Verb}
 use Rattle.lines.specs.declared.shape.Verb.TheVariants as v

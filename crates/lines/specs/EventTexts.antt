@@ -1,15 +1,14 @@
 -- What an event is written as, and the laws of reading and writing it.
 -- Assumes nothing.
-use Rattle.std.specs.Prelude.{◌≡◌, ℕ, ◌≤◌, Bool, true, false, ◌&&◌, List, [], ◌∷◌, ◌++◌, length, Some, None, Ok, Err, codes, Option, Result}
-use Rattle.promise.specs.Bytes.{Bytes, all_bytes}
+use Rattle.std.specs.Prelude.{◌≡◌, Bool, true, false, [], ◌++◌, Some, None, Ok, codes, Option, Result}
+use Rattle.promise.specs.Bytes.{Bytes}
 use Rattle.promise.specs.Sheets as t
 use Rattle.text.specs.Decimals.{decimal_text}
 use Rattle.text.specs.Hex.{hex_text}
 use Rattle.text.specs.Names.{name_text}
 use Rattle.text.specs.Words.{spaced}
 use Rattle.lines.specs.Fields.{expect_text}
-use Rattle.lines.specs.CallLines.{most16, most32}
-use Rattle.lines.specs.Events.{Event, Clock, From, Beat, Light, Sync, Asked, most64, most_clock, all_seen}
+use Rattle.lines.specs.Events.{Event, Clock, From, Beat, Light, Sync, Asked}
 use Rattle.lines.specs.declared.error.LineError.{LineError}
 
 -- `take` and `take alone`

@@ -1,12 +1,11 @@
 -- The lines that house and desks read, and what they say.
 -- Assumes nothing.
-use Rattle.std.specs.Prelude.{ℕ, Bool, true, false, cond, ◌&&◌, List, [], ◌∷◌, ◌++◌, length, Some, None, Ok, Err, vec_items, codes, Option, Result, ◌==◌, nat_le}
+use Rattle.std.specs.Prelude.{ℕ, Bool, true, cond, ◌&&◌, [], ◌∷◌, length, Some, None, Ok, Err, vec_items, codes, Option, Result, ◌==◌, nat_le}
 use Rattle.std.specs.Borrow.{Bor}
 use Rattle.std.specs.Str.{bytes_eq}
 use Rattle.std.specs.Option.{option_map, ok_or}
 use Rattle.promise.specs.Bytes.{Bytes, bind}
 use Rattle.promise.specs.Sheets as t
-use Rattle.codec.specs.Calls.{call_of}
 use Rattle.text.specs.Decimals.{decimal_in}
 use Rattle.text.specs.Hex.{hex_in}
 use Rattle.text.specs.Words.{first_in, word_in}

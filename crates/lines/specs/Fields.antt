@@ -1,6 +1,6 @@
 -- One word behind a space, read as a number, a name, bytes or an expected edition, and the rest of the line.
 -- Assumes nothing.
-use Rattle.std.specs.Prelude.{ℕ, cond, List, [], ◌∷◌, ◌++◌, Some, None, codes, Option}
+use Rattle.std.specs.Prelude.{ℕ, cond, Some, codes, Option}
 use Rattle.std.specs.Borrow.{Bor}
 use Rattle.std.specs.Str.{bytes_eq}
 use Rattle.promise.specs.Bytes.{Bytes, bind}
@@ -8,9 +8,9 @@ use Rattle.promise.specs.Sheets as t
 use Rattle.codec.specs.declared.call.Expect.{Expect}
 use Rattle.codec.specs.Calls.{expect_of}
 use Rattle.text.specs.Decimals.{decimal_in, decimal_text}
-use Rattle.text.specs.Hex.{hex_in, hex_text}
-use Rattle.text.specs.Names.{name_in, name_text}
-use Rattle.text.specs.Words.{word_in, spaced}
+use Rattle.text.specs.Hex.{hex_in}
+use Rattle.text.specs.Names.{name_in}
+use Rattle.text.specs.Words.{word_in}
 
 -- what a reader gives of its word, and the rest
 abbrev pub word_as : {A : Type 0} → (Bytes → Option A) → Bytes → Option (A × Bytes)

@@ -1,7 +1,6 @@
 -- Whether the buffers have room for what a line can say.
 -- Assumes nothing.
-use Rattle.std.specs.Prelude.{◌≡◌, ℕ, ◌≤◌, Bool, ◌&&◌, leb, length, vec_capacity}
-use Rattle.promise.specs.Bytes.{Bytes}
+use Rattle.std.specs.Prelude.{◌≡◌, ℕ, ◌≤◌, vec_capacity}
 use Rattle.lines.specs.declared.shape.Scratch.{Scratch}
 
 -- two longest names, and as many bytes as the line has

@@ -1,4 +1,4 @@
-use Rattle.std.proofs.Common.{◌≡◌, ◌++◌, take, drop, vec_items, vec_len, vec_capacity}
+use Rattle.std.proofs.Common.{◌≡◌, take, vec_items, vec_len, vec_capacity}
 use Rattle.lines.proofs.event.hold.Given as goal
 
 abbrev pub invariant-loop-b : goal.invariant-loop-b

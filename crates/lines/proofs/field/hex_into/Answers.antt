@@ -1,4 +1,3 @@
-use Rattle.std.proofs.Common.{rules}
 use Rattle.lines.proofs.Fitting.{read_fits}
 use Rattle.lines.proofs.field.hex_into.Goals as goal
 
