@@ -1,6 +1,6 @@
 -- Answers as lines: the call's number, and what it is told.
 -- Assumes nothing.
-use Rattle.std.specs.Prelude.{ℕ, zero, suc, Bool, cond, List, [], ◌∷◌, ◌++◌, length, drop, Some, None, codes, Option, nat_lt, slice_index}
+use Rattle.std.specs.Prelude.{ℕ, zero, suc, cond, List, [], ◌∷◌, ◌++◌, length, drop, Some, None, codes, Option, nat_lt, slice_index}
 use Rattle.promise.specs.Bytes.{Bytes, part_in}
 use Rattle.promise.specs.Sheets as t
 use Rattle.codec.specs.Answers.{refusal_number}

@@ -1,6 +1,6 @@
 -- The lines that house and desks print, each with its end.
 -- Assumes nothing.
-use Rattle.std.specs.Prelude.{ℕ, List, [], ◌∷◌, ◌++◌, codes}
+use Rattle.std.specs.Prelude.{ℕ, [], ◌∷◌, ◌++◌, codes}
 use Rattle.promise.specs.Bytes.{Bytes}
 use Rattle.text.specs.Decimals.{decimal_text}
 use Rattle.text.specs.Hex.{hex_text}
