@@ -1,10 +1,10 @@
 -- The steps of a script and the lines that say them: words with one space between them.
 -- Assumes nothing.
-use Rattle.std.specs.Prelude.{ℕ, ◌+◌, ◌<◌, ◌≤◌, Bool, true, false, cond, List, [], ◌∷◌, ◌++◌, length, drop, Some, None, codes, Option, ◌==◌, slice_index}
+use Rattle.std.specs.Prelude.{ℕ, cond, length, drop, Some, None, codes, Option, ◌==◌, slice_index}
 use Rattle.std.specs.Str.{bytes_eq}
 use Rattle.promise.specs.Bytes.{Bytes, bind, ended}
-use Rattle.text.specs.Decimals.{decimal_in, decimal_text}
-use Rattle.text.specs.Words.{first_in, word_in, spaced}
+use Rattle.text.specs.Decimals.{decimal_in}
+use Rattle.text.specs.Words.{first_in, word_in}
 use Rattle.script.specs.declared.step.Drift.{Drift}
 use Rattle.script.specs.declared.step.Drift.TheVariants.{Fast, Slow}
 use Rattle.script.specs.declared.step.Fate.{Fate}

@@ -3,7 +3,7 @@ ghost use Rattle.std.specs.Prelude.{◌≡◌, ◌<◌, ◌≤◌, true, IfSome}
 ghost use Rattle.std.specs.Option.{option_map};
 ghost use Rattle.promise.specs.Bytes.{ended};
 ghost use Rattle.script.specs.Reading.{number_and_rest};
-ghost use Rattle.script.specs.Steps.{dark as darkStep, light as lightStep, step_of, num_in, count_in, script_in, desks_in, memory_in, drift_of, rate_in, time_in, beat_in, fall_in, come_in, nth_in, between_in, which_in, deliver_in, pass_in, call_in, scene_in, happens_in, message_in, step_in};
+ghost use Rattle.script.specs.Steps.{dark as dark_step, light as light_step, step_of, num_in, count_in, script_in, desks_in, memory_in, drift_of, rate_in, time_in, beat_in, fall_in, come_in, nth_in, between_in, which_in, deliver_in, pass_in, call_in, scene_in, happens_in, message_in, step_in};
 
 use crate::step::{Drift, Fate, Step, Which};
 use text::decimal::read_decimal;
@@ -192,7 +192,7 @@ fn call<'a>(word: &[u8], rest: &'a [u8]) -> Option<Step<'a>>
 }
 
 fn dark<'a>(rest: &'a [u8]) -> Option<Step<'a>>
-    ensures { option_map step_of result ≡ ended darkStep rest.now }
+    ensures { option_map step_of result ≡ ended dark_step rest.now }
 {
     if rest.is_empty() {
         Some(Step::Dark)
@@ -202,7 +202,7 @@ fn dark<'a>(rest: &'a [u8]) -> Option<Step<'a>>
 }
 
 fn light<'a>(rest: &'a [u8]) -> Option<Step<'a>>
-    ensures { option_map step_of result ≡ ended lightStep rest.now }
+    ensures { option_map step_of result ≡ ended light_step rest.now }
 {
     if rest.is_empty() {
         Some(Step::Light)
