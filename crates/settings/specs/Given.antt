@@ -1,6 +1,6 @@
 -- What the arguments of a program say.
 -- Assumes nothing.
-use Rattle.std.specs.Prelude.{ℕ, cond, ◌||◌, List, [], ◌∷◌, length, Ok, Err, codes, Result, ◌==◌, nat_lt, slice_index}
+use Rattle.std.specs.Prelude.{ℕ, cond, ◌||◌, List, length, Ok, Err, codes, Result, ◌==◌, nat_lt, slice_index}
 use Rattle.settings.specs.declared.HouseSettings.{HouseSettings}
 use Rattle.settings.specs.declared.DeskSettings.{DeskSettings}
 use Rattle.settings.specs.declared.Wrong.{Wrong}
