@@ -1,6 +1,7 @@
 // A desk as a program: lines in, lines out.
 #![tactic(auto)]
 
+use anyhow::anyhow;
 use codec::answer::{Answer, Refusal};
 use console::{Console, Handler, LONGEST_LINE, handle_lines, number_arguments, report};
 use ids::{CallNumber, Clock};
@@ -79,7 +80,7 @@ impl Handler for Program {
 fn run(rt: &HostRuntime) -> anyhow::Result<()> {
     let numbers = number_arguments(rt)?;
     if let Err(wrong) = desk_settings(numbers.as_slice()) {
-        return Err(wrong.text().into());
+        return Err(anyhow!(wrong.text()));
     }
     let scratch = Scratch::new(rt.alloc(), LONGEST_LINE)?;
     let desk = Desk {

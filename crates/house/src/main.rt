@@ -1,6 +1,7 @@
 // The house as a program: lines in, lines out.
 #![tactic(auto)]
 
+use anyhow::anyhow;
 use console::{Console, Handler, LONGEST_LINE, handle_lines, number_arguments, report};
 use ids::Clock;
 use lines::event::read_house;
@@ -59,7 +60,7 @@ impl Handler for Program {
 fn run(rt: &HostRuntime) -> anyhow::Result<()> {
     let numbers = number_arguments(rt)?;
     if let Err(wrong) = house_settings(numbers.as_slice()) {
-        return Err(wrong.text().into());
+        return Err(anyhow!(wrong.text()));
     }
     let scratch = Scratch::new(rt.alloc(), LONGEST_LINE)?;
     let house = House { clock: Clock(0) };
