@@ -9,7 +9,7 @@ use Rattle.promise.specs.Desks.{From, Ask, Beat, Does, To, Tell, Lapse, Code, Se
 use Rattle.promise.specs.Desks as D
 use Rattle.codec.specs.Messages.{Msg, encode_msg, decode_msg, ReadsBack}
 use Rattle.asking.specs.Lawful.{Lawful}
-use Rattle.asking.specs.Code.{Settings, Mind, Turn, ByteTurn, mind_turn, asking as overMessages, is_none, saying, written, decoded_turn, byte_turn, asking_bytes}
+use Rattle.asking.specs.Code.{Settings, Mind, Turn, ByteTurn, mind_turn, asking as over_messages, is_none, saying, written, decoded_turn, byte_turn, asking_bytes}
 use Rattle.asking.proofs.Base.{at_same, at_other}
 use Rattle.asking.proofs.Ranges.{all_sayable}
 
@@ -18,7 +18,7 @@ letter_of l = record { to = l.to; by = l.by; at' = l.at'; word = encode_msg l.wo
 
 module _ (mc : Machine) (z : Settings) where
   abbrev pub A : Code Msg
-  A = overMessages mc z
+  A = over_messages mc z
 
   abbrev pub B : Code Bytes
   B = asking_bytes mc z

@@ -30,11 +30,11 @@ unfolding of_bool
 of_bool_lem true = omega arith
 of_bool_lem false = omega arith
 
-none-waits : (xs : List Slot) → none_waits xs ≡ true → waiting xs ≡ 0
+none_waits_lem : (xs : List Slot) → none_waits xs ≡ true → waiting xs ≡ 0
 unfolding waiting none_waits
-none-waits [] e = refl
-none-waits (Idle q ∷ xs) e = none-waits xs e
-none-waits (Waiting q k c b f l ∷ xs) e = let z : ◌≡◌ {A = ℕ} 0 1 = cc in absurd (omega arith)
+none_waits_lem [] e = refl
+none_waits_lem (Idle q ∷ xs) e = none_waits_lem xs e
+none_waits_lem (Waiting q k c b f l ∷ xs) e = let z : ◌≡◌ {A = ℕ} 0 1 = cc in absurd (omega arith)
 
 -- ONE SLOT CHANGED
 
@@ -156,7 +156,7 @@ first_late d j q c true b e = let z : ◌≡◌ {A = ℕ} 0 1 = cc in absurd (om
 first_early : (d : Desk) (j q : ℕ) (c : Bytes) (a b : Bool) → a ≡ true → none_waits d.slots ≡ b → sent_in (first_said d j q c a b) + max 1 (waiting d.slots + 1) ≤ max 1 (waiting d.slots) + 1
 unfolding first_said sent_in
 first_early d j q c false b e n = let z : ◌≡◌ {A = ℕ} 0 1 = cc in absurd (omega arith)
-first_early d j q c true true e n = let w = none-waits d.slots n in omega arith
+first_early d j q c true true e n = let w = none_waits_lem d.slots n in omega arith
 first_early d j q c true false e n = omega arith
 
 sent_flag : (n : ℕ) → (n ≡ 0 → ⊥) → not (eqb n 0) ≡ true

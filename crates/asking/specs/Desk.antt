@@ -108,7 +108,7 @@ abbrev pub shortened : Bytes → Bytes
 shortened c = cond (nat_lt longest_call (length c)) [] c
 
 -- with a session a Request; without one a Hello, if nothing else waits
-unfoldable pub first_said : Desk → (slot seq : ℕ) → Bytes → (noSession alone : Bool) → List (Does Msg)
+unfoldable pub first_said : Desk → (slot seq : ℕ) → Bytes → (no_session alone : Bool) → List (Does Msg)
 first_said d j q c false b = To 0 (Request d.session j q c) ∷ []
 first_said d j q c true true = To 0 (Hello d.nonce) ∷ []
 first_said d j q c true false = []

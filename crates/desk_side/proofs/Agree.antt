@@ -19,11 +19,11 @@ first_idle_lem j [] ps = refl
 first_idle_lem j (Idle q ∷ xs) ps = refl
 first_idle_lem j (Waiting q k b f l ∷ xs) ps = first_idle_lem (j + 1) xs (rest ps)
 
-pub none-waits : (xs : List Slot) (ps : List Bytes) → m.none_waits (slots_of xs ps) ≡ all_idle xs
+pub none_waits_lem : (xs : List Slot) (ps : List Bytes) → m.none_waits (slots_of xs ps) ≡ all_idle xs
 unfolding m.none_waits slots_of
-none-waits [] ps = refl
-none-waits (Idle q ∷ xs) ps = none-waits xs (rest ps)
-none-waits (Waiting q k b f l ∷ xs) ps = refl
+none_waits_lem [] ps = refl
+none_waits_lem (Idle q ∷ xs) ps = none_waits_lem xs (rest ps)
+none_waits_lem (Waiting q k b f l ∷ xs) ps = refl
 
 or_cond : (a b : Bool) → a || b ≡ cond a true b
 or_cond true b = refl

@@ -21,7 +21,7 @@ use Rattle.desk_side.specs.Slots.{all_idle}
 use Rattle.desk_side.specs.Steps.{spoke_now, taken}
 use Rattle.desk_side.specs.View.{call_in, desk_of, slots_of}
 use Rattle.desk_side.specs.Desks.{says_first, grabs}
-use Rattle.desk_side.proofs.Agree.{set_slot, none-waits, slots_same}
+use Rattle.desk_side.proofs.Agree.{set_slot, none_waits_lem, slots_same}
 
 -- THE FIRST MESSAGE
 
@@ -71,7 +71,7 @@ take_is t k x body j q g a b ps all h ea ex eg eb =
     let here : call_in (get_or (set ps j.0 body) j.0 []) ≡ x = ap call_in (get_or-set_same ps j.0 body [] h) ∙ ex in
     let said : m.first_said d1 j.0 q.0 (call_in (get_or (set ps j.0 body) j.0 [])) (eqb a.session.0 0) (all_idle a.slots) ≡ m.first_said d j.0 q.0 x (eqb a.session.0 0) (m.none_waits (slots_of a.slots ps)) =
     first_same d1 d j.0 q.0 _ (eqb a.session.0 0) (all_idle a.slots) refl refl
-    ∙ ap₂ (λ (y : Bytes) (v : Bool). m.first_said d j.0 q.0 y (eqb a.session.0 0) v) here (sym (none-waits a.slots ps)) in
+    ∙ ap₂ (λ (y : Bytes) (v : Bool). m.first_said d j.0 q.0 y (eqb a.session.0 0) v) here (sym (none_waits_lem a.slots ps)) in
     let slots' : slots_of (set a.slots j.0 w) (set ps j.0 body) ≡ set (slots_of a.slots ps) j.0 (m.Waiting q.0 k.0 x (not (eqb a.session.0 0)) t.0 t.0) =
     sym (set_slot a.slots ps j.0 w body h) ∙ ap (λ (y : Bytes). set (slots_of a.slots ps) j.0 (m.Waiting q.0 k.0 y (not (eqb a.session.0 0)) t.0 t.0)) ex in
     let whole : says_first t.0 j.0 q.0 (call_in (get_or (set ps j.0 body) j.0 [])) (all_idle a.slots) d1 ≡ m.takes_call grabs t.0 k.0 x j.0 q.0 d = λ z. record {

@@ -3,7 +3,7 @@ ghost use Rattle.std.specs.Prelude.{◌≡◌, false, [], ◌∷◌, map, nat_lt
 ghost use Rattle.promise.specs.Desks.{To};
 ghost use Rattle.codec.specs.Messages.{Response, encode_msg, decode_msg};
 ghost use Rattle.messages.specs.Views.{msg_of};
-ghost use Rattle.asking.specs.House.{hello as helloTo, request_by, eight, hearing, house_hears, house_tick};
+ghost use Rattle.asking.specs.House.{hello as hello_to, request_by, eight, hearing, house_hears, house_tick};
 ghost use Rattle.asking.specs.Code.{saying};
 ghost use Rattle.sessions.specs.Known.{taking_up, admitted, keeping};
 ghost use Rattle.sessions.specs.Views.{known};
@@ -24,7 +24,7 @@ use sessions::place::Place;
 impl<S: Store> House<S> {
     fn hello(&mut self, place: Place, nonce: Nonce)
         requires { outs_of self.old.out ≡ [] }
-        ensures turn { turned_to S.Store.room S.Store.state self.old self.new ≡ spoken (helloTo place.desk.0 nonce.0 (mind_of S.Store.room S.Store.state self.old)) }
+        ensures turn { turned_to S.Store.room S.Store.state self.old self.new ≡ spoken (hello_to place.desk.0 nonce.0 (mind_of S.Store.room S.Store.state self.old)) }
         ensures room { S.Store.room self.new.table ≡ S.Store.room self.old.table }
     {
         let session = self.sessions.hello(place, nonce);

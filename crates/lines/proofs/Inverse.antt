@@ -1,6 +1,6 @@
 -- What it says that a reader made of others has read something.
 use Rattle.std.proofs.Common.{◌≡◌, ℕ, Bool, true, false, cond, eqb, [], ◌++◌, length, Some, None, Ok, Err, Option, Result, sym, refl, ap, ◌∙◌, arith, eqb-true}
-use Rattle.std.specs.Option.{ok_or as okOr}
+use Rattle.std.specs.Option.{ok_or}
 use Rattle.std.proofs.lemmas.List.{append-nil, nil_from_length}
 use Rattle.promise.specs.Bytes.{Bytes, bind, ended}
 use Rattle.text.specs.Words.{word_in, spaced}
@@ -18,9 +18,9 @@ pub ok_then : {A B : Type 0} (o : Result A LineError) (f : A → Result B LineEr
 ok_then (Err d) f y e = let z : ◌≡◌ {A = ℕ} 0 1 = cc in absurd (omega arith)
 ok_then (Ok x) f y e = (x, refl, e)
 
-pub ok_or : {A : Type 0} (o : Option A) (d : LineError) (x : A) → okOr o d ≡ Ok x → o ≡ Some x
-ok_or None d x e = let z : ◌≡◌ {A = ℕ} 0 1 = cc in absurd (omega arith)
-ok_or (Some y) d x e = cc
+pub ok_or_lem : {A : Type 0} (o : Option A) (d : LineError) (x : A) → ok_or o d ≡ Ok x → o ≡ Some x
+ok_or_lem None d x e = let z : ◌≡◌ {A = ℕ} 0 1 = cc in absurd (omega arith)
+ok_or_lem (Some y) d x e = cc
 
 pub ended_is : {A : Type 0} (x y : A) (b : Bytes) → ended x b ≡ Some y → (x ≡ y) × (b ≡ [])
 ended_is {A} x y b e = go (eqb (length b) 0) refl e

@@ -1,7 +1,7 @@
 -- What was read of a line is written as it stood.
 use Rattle.std.proofs.Common.{◌≡◌, ℕ, Bool, true, false, cond, [], ◌++◌, Some, None, Ok, Err, codes, Option, Result, sym, refl, ap, ◌∙◌, subst, arith}
 use Rattle.std.specs.Str.{bytes_eq}
-use Rattle.std.specs.Option.{ok_or as okOr}
+use Rattle.std.specs.Option.{ok_or}
 use Rattle.std.proofs.lemmas.Slice.Eq.{bytes_eq-Decides}
 use Rattle.std.proofs.lemmas.List.{append-nil}
 use Rattle.promise.specs.Bytes.{Bytes}
@@ -19,34 +19,34 @@ use Rattle.lines.specs.declared.error.LineError.{LineError}
 use Rattle.lines.specs.declared.error.LineError.TheVariants.{MissingWord, BadNumber, BadHex, BadWord}
 use Rattle.lines.specs.declared.shape.Verb.{Verb}
 use Rattle.lines.specs.declared.shape.Verb.TheVariants as v
-use Rattle.lines.proofs.Inverse.{some_bind, ok_then, ok_or, last_is}
+use Rattle.lines.proofs.Inverse.{some_bind, ok_then, ok_or_lem, last_is}
 use Rattle.lines.proofs.CallLaws.{read_args, put_args, patch_args, remove_args, rename_args, names_args, take_args, let_args}
 
 -- the last word of a line
 word_last : (b : Bytes) (w : Bytes × Bytes) (x : Bytes) → needed b ≡ Ok w → x ≡ w.0 → w.1 ≡ [] → spaced x ≡ b
 word_last b w x e q z =
-    ap spaced q ∙ (sym (append-nil (spaced w.0)) ∙ (sym (ap (λ (y : Bytes). spaced w.0 ++ y) z) ∙ word_line b w.0 w.1 (ok_or (word_in b) MissingWord w e)))
+    ap spaced q ∙ (sym (append-nil (spaced w.0)) ∙ (sym (ap (λ (y : Bytes). spaced w.0 ++ y) z) ∙ word_line b w.0 w.1 (ok_or_lem (word_in b) MissingWord w e)))
 
 clock_line_lem : (b : Bytes) (e : Event) → clock_line b ≡ Ok e → event_text e ≡ codes "clock" ++ b
 clock_line_lem b e f =
-    let w = ok_then (needed b) (λ w. and_then (okOr (decimal_in most_clock w.0) BadNumber) (λ n. last_word (Clock n) w.1)) e f in
-    let n = ok_then (okOr (decimal_in most_clock w.0.0) BadNumber) (λ n. last_word (Clock n) w.0.1) e w.2 in
+    let w = ok_then (needed b) (λ w. and_then (ok_or (decimal_in most_clock w.0) BadNumber) (λ n. last_word (Clock n) w.1)) e f in
+    let n = ok_then (ok_or (decimal_in most_clock w.0.0) BadNumber) (λ n. last_word (Clock n) w.0.1) e w.2 in
     let z = last_is (Clock n.0) e w.0.1 n.2 in
-    let d : decimal_text n.0 ≡ w.0.0 = decimal_line most_clock w.0.0 n.0 (omega arith) (ok_or (decimal_in most_clock w.0.0) BadNumber n.0 n.1) in
+    let d : decimal_text n.0 ≡ w.0.0 = decimal_line most_clock w.0.0 n.0 (omega arith) (ok_or_lem (decimal_in most_clock w.0.0) BadNumber n.0 n.1) in
     sym (ap event_text z.0) ∙ ap (λ (y : Bytes). codes "clock" ++ y) (word_last b w.0 (decimal_text n.0) w.1 d z.1)
 
 from_line_lem : (b : Bytes) (e : Event) → from_line b ≡ Ok e → event_text e ≡ codes "from" ++ b
 from_line_lem b e f =
-    let w = ok_then (needed b) (λ w. and_then (okOr (decimal_in most64 w.0) BadNumber) (λ j. and_then (needed w.1) (λ h. and_then (okOr (hex_in h.0) BadHex) (λ bs. last_word (From j bs) h.1)))) e f in
-    let j = ok_then (okOr (decimal_in most64 w.0.0) BadNumber) (λ j. and_then (needed w.0.1) (λ h. and_then (okOr (hex_in h.0) BadHex) (λ bs. last_word (From j bs) h.1))) e w.2 in
-    let h = ok_then (needed w.0.1) (λ h. and_then (okOr (hex_in h.0) BadHex) (λ bs. last_word (From j.0 bs) h.1)) e j.2 in
-    let d = ok_then (okOr (hex_in h.0.0) BadHex) (λ bs. last_word (From j.0 bs) h.0.1) e h.2 in
+    let w = ok_then (needed b) (λ w. and_then (ok_or (decimal_in most64 w.0) BadNumber) (λ j. and_then (needed w.1) (λ h. and_then (ok_or (hex_in h.0) BadHex) (λ bs. last_word (From j bs) h.1)))) e f in
+    let j = ok_then (ok_or (decimal_in most64 w.0.0) BadNumber) (λ j. and_then (needed w.0.1) (λ h. and_then (ok_or (hex_in h.0) BadHex) (λ bs. last_word (From j bs) h.1))) e w.2 in
+    let h = ok_then (needed w.0.1) (λ h. and_then (ok_or (hex_in h.0) BadHex) (λ bs. last_word (From j.0 bs) h.1)) e j.2 in
+    let d = ok_then (ok_or (hex_in h.0.0) BadHex) (λ bs. last_word (From j.0 bs) h.0.1) e h.2 in
     let z = last_is (From j.0 d.0) e h.0.1 d.2 in
-    let u : decimal_text j.0 ≡ w.0.0 = decimal_line most64 w.0.0 j.0 (omega arith) (ok_or (decimal_in most64 w.0.0) BadNumber j.0 j.1) in
-    let x : hex_text d.0 ≡ h.0.0 = hex_line h.0.0 d.0 (ok_or (hex_in h.0.0) BadHex d.0 d.1) in
+    let u : decimal_text j.0 ≡ w.0.0 = decimal_line most64 w.0.0 j.0 (omega arith) (ok_or_lem (decimal_in most64 w.0.0) BadNumber j.0 j.1) in
+    let x : hex_text d.0 ≡ h.0.0 = hex_line h.0.0 d.0 (ok_or_lem (hex_in h.0.0) BadHex d.0 d.1) in
     sym (ap event_text z.0)
     ∙ ap (λ (y : Bytes). codes "from" ++ y) (ap (λ (y : Bytes). spaced (decimal_text j.0) ++ y) (word_last w.0.1 h.0 (hex_text d.0) h.1 x z.1)
-    ∙ (ap (λ (y : Bytes). spaced y ++ w.0.1) u ∙ word_line b w.0.0 w.0.1 (ok_or (word_in b) MissingWord w.0 w.1)))
+    ∙ (ap (λ (y : Bytes). spaced y ++ w.0.1) u ∙ word_line b w.0.0 w.0.1 (ok_or_lem (word_in b) MissingWord w.0 w.1)))
 
 sync_line_lem : (b : Bytes) (e : Event) → sync_line b ≡ Ok e → event_text e ≡ codes "sync" ++ b
 sync_line_lem b e f =
@@ -84,9 +84,9 @@ plain_line_lem w b e f =
 -- what was read of a line at the house is written as it stood
 pub house_written_back : (line : Bytes) → WrittenBack house_line line
 house_written_back line e has f =
-    let w = ok_then (okOr (first_in line) MissingWord) (λ w. cond (bytes_eq w.0 (codes "light")) (last_word Light w.1) (plain_line w.0 w.1)) e f in
+    let w = ok_then (ok_or (first_in line) MissingWord) (λ w. cond (bytes_eq w.0 (codes "light")) (last_word Light w.1) (plain_line w.0 w.1)) e f in
     by_word w.0.0 (codes "light") w.0.1 e _ _ (λ g. alone_line Light e (codes "light") w.0.1 refl g) (λ g. plain_line_lem w.0.0 w.0.1 e g) w.2
-    ∙ first_line line w.0.0 w.0.1 (ok_or (first_in line) MissingWord w.0 w.1)
+    ∙ first_line line w.0.0 w.0.1 (ok_or_lem (first_in line) MissingWord w.0 w.1)
 
 -- CALLS
 
@@ -149,8 +149,8 @@ asked_line w b x c e f =
 -- what was read of a line at a desk is written as it stood
 pub desk_written_back : (line : Bytes) → WrittenBack desk_line line
 desk_written_back line e has f =
-    let w = ok_then (okOr (first_in line) MissingWord) (λ w. asked_or (asked_in w.0 w.1) (plain_line w.0 w.1)) e f in
-    go w.0 (asked_in w.0.0 w.0.1) refl w.2 ∙ first_line line w.0.0 w.0.1 (ok_or (first_in line) MissingWord w.0 w.1)
+    let w = ok_then (ok_or (first_in line) MissingWord) (λ w. asked_or (asked_in w.0 w.1) (plain_line w.0 w.1)) e f in
+    go w.0 (asked_in w.0.0 w.0.1) refl w.2 ∙ first_line line w.0.0 w.0.1 (ok_or_lem (first_in line) MissingWord w.0 w.1)
   where
     call : (w : Bytes × Bytes) (x : ℕ × (Verb × Bytes)) → asked_in w.0 w.1 ≡ Some x → (o : Option t.Call) → call_line x.1.0 x.1.1 ≡ o →
         ◌≡◌ {A = Result Event LineError} (Ok (Asked x.0 o)) (Ok e) → event_text e ≡ w.0 ++ w.1

@@ -5,7 +5,7 @@ use Rattle.promise.specs.Bytes.{Bytes}
 use Rattle.asking.specs.House.{Peer, unused, eight, slot_of, is_session}
 
 -- a session was given to this nonce
-abbrev pub is_for : (nonce givenTo session : ℕ) → Bool
+abbrev pub is_for : (nonce given_to session : ℕ) → Bool
 is_for c d s = not (s == 0) && d == c
 
 -- the session that was given to this nonce
