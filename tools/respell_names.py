@@ -19,9 +19,9 @@ GENERATED = re.compile(r"(?:goal|need|c|l|w)\.([^\s(){}\[\];.,\"`]+)")
 KEYWORDS = {"abbrev", "unfoldable", "pub", "data", "record", "ruleset", "use", "mod", "where", "let", "in", "elim", "as", "unfolding"}
 # Said apart by hand, where the rule alone would not.
 BY_HAND = {"getD": "get_or"}
-# Lemmas that have the name which a definition gets, in these files alone; a field that has the name of the function's own field is no clash.
-# Names of the library that a file here defines too: as the library spells them.
+# A name of the library that looks like one of these files' own: it stays as the library spells it.
 LIBRARY = {"eq-eqb"}
+# Lemmas that have the name which a definition gets, in these files alone; a field that has the name of the function's own field is no clash.
 LEMMAS = {n: n + "_lem" for n in ("call_line", "first_said", "goes_on", "names_in", "no_room", "out_of_range", "too_long")}
 SAME_FIELD = {"mayHold"}
 
