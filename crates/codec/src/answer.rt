@@ -26,6 +26,14 @@ pub enum Refusal {
     Other(u8),
 }
 
+// What a change is answered.
+#[derive(Clone, Copy, PartialEq, Eq)]
+pub enum Changed {
+    No(Refusal),
+    Yes,
+    Edition(Edition),
+}
+
 #[derive(Clone, Copy)]
 pub enum Answer<'a> {
     No(Refusal),

@@ -36,3 +36,11 @@ pub struct Clock(pub u64);
 // The number under which a call was made at its desk.
 #[derive(Clone, Copy, PartialEq, Eq)]
 pub struct CallNumber(pub u64);
+
+// Which request of a desk: under which session, in which slot, and the how manyth call of that slot.
+#[derive(Clone, Copy, PartialEq, Eq)]
+pub struct RequestId {
+    pub session: Session,
+    pub slot: SlotId,
+    pub seq: Seq,
+}
