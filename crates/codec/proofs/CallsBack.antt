@@ -1,11 +1,10 @@
 -- Calls that were written are read as they were.
-use Rattle.std.proofs.Common.{◌≡◌, ℕ, ◌^◌, ◌<◌, Bool, true, false, cond, eqb, [], ◌++◌, length, Some, None, sym, ap, ◌∙◌, lit<}
+use Rattle.std.proofs.Common.{◌≡◌, ℕ, ◌^◌, ◌<◌, Bool, true, false, cond, eqb, [], ◌∷◌, ◌++◌, length, Some, None, sym, ap, ◌∙◌, lit<}
 use Rattle.std.proofs.lemmas.List.{append-nil}
 use Rattle.promise.specs.Bytes.{Bytes, be, bind, number_in, lengthed_in, ended}
 use Rattle.promise.specs.Sheets.{Name, Expect, Any, Just', Read, Put, Patch, Remove, Rename, Names, Take, LetGo}
-use Rattle.promise.specs.Layout.{name_out, bytes_out, expect_out, alone_out, expect_in, alone_in, read_in, put_in, patch_in, remove_in, rename_in, names_call_in, take_in, let_go_in, encode_call}
+use Rattle.promise.specs.Layout.{name_out, bytes_out, expect_out, alone_out, expect_in, alone_in, read_in, put_in, patch_in, remove_in, rename_in, names_call_in, take_in, let_go_in, call_in, encode_call, decode_call}
 use Rattle.codec.specs.Statements.{SayableExpect, CallsReadBack}
-use Rattle.codec.proofs.CallKinds.{by_kind}
 use Rattle.codec.proofs.Forms.{kind_back, number_back, lengthed_back}
 
 pub expect_back : (e : Expect) (rest : Bytes) → SayableExpect e → expect_in (expect_out e ++ rest) ≡ Some (e, rest)
@@ -70,13 +69,17 @@ let_go_back n hn =
     ap (λ z. let_go_in z) (sym (append-nil (name_out n)))
     ∙ ap (λ o. bind o (λ n. ended (LetGo n.0) n.1)) (lengthed_back 1 n [] hn)
 
+by_kind : (k : ℕ) (rest : Bytes) → k < 256 → decode_call (k ∷ rest) ≡ call_in k rest
+unfolding decode_call
+by_kind k rest h = ap (λ o. bind o (λ k. call_in k.0 k.1)) (kind_back k rest h)
+
 pub calls_back : CallsReadBack
 unfolding encode_call
-calls_back (Read n f m) h = by_kind _ 1 (name_out n ++ (be 4 f ++ (be 4 m))) (kind_back 1 (name_out n ++ (be 4 f ++ (be 4 m))) (lit< tt)) ∙ read_back n f m h.0 h.1 h.2
-calls_back (Put n d e) h = by_kind _ 2 (name_out n ++ (expect_out e ++ (bytes_out d))) (kind_back 2 (name_out n ++ (expect_out e ++ (bytes_out d))) (lit< tt)) ∙ put_back n e d h.0 h.1 h.2
-calls_back (Patch n a d e) h = by_kind _ 3 (name_out n ++ (be 4 a ++ (expect_out e ++ (bytes_out d)))) (kind_back 3 (name_out n ++ (be 4 a ++ (expect_out e ++ (bytes_out d)))) (lit< tt)) ∙ patch_back n a e d h.0 h.1 h.2 h.3
-calls_back (Remove n e) h = by_kind _ 4 (name_out n ++ (expect_out e)) (kind_back 4 (name_out n ++ (expect_out e)) (lit< tt)) ∙ remove_back n e h.0 h.1
-calls_back (Rename n k) h = by_kind _ 5 (name_out n ++ (name_out k)) (kind_back 5 (name_out n ++ (name_out k)) (lit< tt)) ∙ rename_back n k h.0 h.1
-calls_back (Names a m) h = by_kind _ 6 (name_out a ++ (be 2 m)) (kind_back 6 (name_out a ++ (be 2 m)) (lit< tt)) ∙ names_back a m h.0 h.1
-calls_back (Take n a) h = by_kind _ 7 (name_out n ++ (alone_out a)) (kind_back 7 (name_out n ++ (alone_out a)) (lit< tt)) ∙ take_back n a h
-calls_back (LetGo n) h = by_kind _ 8 (name_out n) (kind_back 8 (name_out n) (lit< tt)) ∙ let_go_back n h
+calls_back (Read n f m) h = by_kind 1 (name_out n ++ (be 4 f ++ (be 4 m))) (lit< tt) ∙ read_back n f m h.0 h.1 h.2
+calls_back (Put n d e) h = by_kind 2 (name_out n ++ (expect_out e ++ (bytes_out d))) (lit< tt) ∙ put_back n e d h.0 h.1 h.2
+calls_back (Patch n a d e) h = by_kind 3 (name_out n ++ (be 4 a ++ (expect_out e ++ (bytes_out d)))) (lit< tt) ∙ patch_back n a e d h.0 h.1 h.2 h.3
+calls_back (Remove n e) h = by_kind 4 (name_out n ++ (expect_out e)) (lit< tt) ∙ remove_back n e h.0 h.1
+calls_back (Rename n k) h = by_kind 5 (name_out n ++ (name_out k)) (lit< tt) ∙ rename_back n k h.0 h.1
+calls_back (Names a m) h = by_kind 6 (name_out a ++ (be 2 m)) (lit< tt) ∙ names_back a m h.0 h.1
+calls_back (Take n a) h = by_kind 7 (name_out n ++ (alone_out a)) (lit< tt) ∙ take_back n a h
+calls_back (LetGo n) h = by_kind 8 (name_out n) (lit< tt) ∙ let_go_back n h

@@ -1,5 +1,5 @@
 -- There is one way to write each call.
-use Rattle.std.proofs.Common.{◌≡◌, ℕ, Bool, true, false, cond, eqb, ◌∷◌, ◌++◌, Some, None, sym, ap, ◌∙◌, subst, ⊎_elim, arith}
+use Rattle.std.proofs.Common.{◌≡◌, ℕ, Bool, true, false, cond, eqb, ◌∷◌, ◌++◌, Some, None, sym, ap, ◌∙◌, subst, ⊎_elim}
 use Rattle.std.proofs.lemmas.List.{append-nil}
 use Rattle.promise.specs.Bytes.{Bytes, be, bind, number_in, lengthed_in, ended}
 use Rattle.promise.specs.Sheets.{Expect, Any, Just', Call, Read, Put, Patch, Remove, Rename, Names, Take, LetGo}
@@ -22,7 +22,7 @@ expect_form b x rest s e =
     let g = number_form 8 t.0.1 u.0.0 u.0.1 f.1 u.1 in
     let both : ◌≡◌ {A = Expect × Bytes} (Just' u.0.0, u.0.1) (x, rest) = let r = u.2 in cc in
     subst (λ z. (b ≡ expect_out z.0 ++ z.1) × SayableExpect z.0 × Small z.1) both (f.0 ∙ ap (λ k. k ∷ t.0.1) q.0 ∙ ap (λ r. 1 ∷ r) g.0, g.1, g.2))
-    (λ q. absurd (let r = q.1 in let z : ◌≡◌ {A = ℕ} 0 1 = cc in omega arith))
+    (λ q. absurd (let r = q.1 in cc))
     (cond_some t.0.0 1 (bind (number_in 8 t.0.1) (λ e. Some (Just' e.0, e.1))) None (x, rest) p.1))
     (cond_some t.0.0 0 (Some (Any, t.0.1)) (cond (eqb t.0.0 1) (bind (number_in 8 t.0.1) (λ e. Some (Just' e.0, e.1))) None) (x, rest) t.2)
 
@@ -39,7 +39,7 @@ alone_form b x rest s e =
     (λ q.
     let both : ◌≡◌ {A = Bool × Bytes} (true, t.0.1) (x, rest) = let r = q.1 in cc in
     subst (λ z. (b ≡ alone_out z.0 ++ z.1) × Small z.1) both (f.0 ∙ ap (λ k. k ∷ t.0.1) q.0, f.1))
-    (λ q. absurd (let r = q.1 in let z : ◌≡◌ {A = ℕ} 0 1 = cc in omega arith))
+    (λ q. absurd (let r = q.1 in cc))
     (cond_some t.0.0 1 (Some (true, t.0.1)) None (x, rest) p.1))
     (cond_some t.0.0 0 (Some (false, t.0.1)) (cond (eqb t.0.0 1) (Some (true, t.0.1)) None) (x, rest) t.2)
 
@@ -155,7 +155,7 @@ kinds_form k b x s e =
     ⊎_elim
     (λ p8. at 8 p8.0 (let_go_form b x s p8.1))
     (λ p8.
-    absurd (let r = p8.1 in let z : ◌≡◌ {A = ℕ} 0 1 = cc in omega arith))
+    absurd (let r = p8.1 in cc))
     (cond_some k 8 (let_go_in b) None x p7.1))
     (cond_some k 7 (take_in b) (cond (eqb k 8) (let_go_in b) None) x p6.1))
     (cond_some k 6 (names_call_in b) (cond (eqb k 7) (take_in b) (cond (eqb k 8) (let_go_in b) None)) x p5.1))

@@ -85,7 +85,7 @@ lengthed_back w p rest h =
 -- READ, SO WRITTEN
 
 pub bind_some : {A B : Type 0} (o : Option A) (f : A → Option B) (y : B) → bind o f ≡ Some y → (x : A) × (o ≡ Some x) × (f x ≡ Some y)
-bind_some None f y e = absurd (let z : ◌≡◌ {A = ℕ} 0 1 = cc in omega arith)
+bind_some None f y e = cc
 bind_some (Some x) f y e = (x, refl, e)
 
 pub small_take : (n : ℕ) (b : Bytes) → Small b → Small (take n b)
@@ -98,7 +98,7 @@ small_take n b s i =
 pub number_form : (w : ℕ) (b : Bytes) (n : ℕ) (rest : Bytes) → Small b → number_in w b ≡ Some (n, rest) → (b ≡ be w n ++ rest) × (n < 256 ^ w) × Small rest
 number_form w b n rest s e = go (ltb (length b) w) refl e where
   go : (t : Bool) → ltb (length b) w ≡ t → cond {A = Option (ℕ × Bytes)} t None (Some (number (take w b), drop w b)) ≡ Some (n, rest) → (b ≡ be w n ++ rest) × (n < 256 ^ w) × Small rest
-  go true h e = absurd (let z : ◌≡◌ {A = ℕ} 0 1 = cc in omega arith)
+  go true h e = cc
   go false h e =
       let le : w ≤ length b = ltb-false (length b) w h in
       let both : ◌≡◌ {A = ℕ × Bytes} (number (take w b), drop w b) (n, rest) = cc in
@@ -111,7 +111,7 @@ number_form w b n rest s e = go (ltb (length b) w) refl e where
 pub part_form : (n : ℕ) (b p rest : Bytes) → Small b → part_in n b ≡ Some (p, rest) → (b ≡ p ++ rest) × (length p ≡ n) × Small p × Small rest
 part_form n b p rest s e = go (ltb (length b) n) refl e where
   go : (t : Bool) → ltb (length b) n ≡ t → cond {A = Option (Bytes × Bytes)} t None (Some (take n b, drop n b)) ≡ Some (p, rest) → (b ≡ p ++ rest) × (length p ≡ n) × Small p × Small rest
-  go true h e = absurd (let z : ◌≡◌ {A = ℕ} 0 1 = cc in omega arith)
+  go true h e = cc
   go false h e =
       let le : n ≤ length b = ltb-false (length b) n h in
       let both : ◌≡◌ {A = Bytes × Bytes} (take n b, drop n b) (p, rest) = cc in
@@ -137,7 +137,7 @@ pub ended_form : {A : Type 0} (x : A) (b : Bytes) (y : A) → ended x b ≡ Some
 ended_form x b y e = go (eqb (length b) 0) refl e where
   go : (t : Bool) → eqb (length b) 0 ≡ t → cond t (Some x) None ≡ Some y → (x ≡ y) × (b ≡ [])
   go true h e = (cc, nil_from_length b (eqb-true (length b) 0 h))
-  go false h e = absurd (let z : ◌≡◌ {A = ℕ} 0 1 = cc in omega arith)
+  go false h e = cc
 
 -- NAMES, one behind the other
 
@@ -173,7 +173,7 @@ names_form (suc k) b ns rest s e =
 pub names_whole : (k : ℕ) (b : Bytes) → Small b → are_names k b ≡ true → (names_out (names_of k b) ≡ b) × (length (names_of k b) ≡ k) × (length b ≤ 256 * k)
 names_whole k b s e = go (names_in k b) refl e where
   go : (o : Option (List Name × Bytes)) → names_in k b ≡ o → whole o ≡ true → (names_out (names_of k b) ≡ b) × (length (names_of k b) ≡ k) × (length b ≤ 256 * k)
-  go None h e = absurd (let z : ◌≡◌ {A = ℕ} 0 1 = cc in omega arith)
+  go None h e = cc
   go (Some x) h e =
       let f = names_form k b x.0 x.1 s h in
       let ns : names_of k b ≡ x.0 = ap listed h in

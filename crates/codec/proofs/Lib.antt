@@ -1,9 +1,8 @@
 pub mod Numbers
-pub mod CallKinds
+pub mod UnknownKinds
 pub mod CallsOut
 pub mod NamesRead
 pub mod Forms
-pub mod AnswersOut
 pub mod CallsBack
 pub mod CallsForm
 pub mod RepliesBack

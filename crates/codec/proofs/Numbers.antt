@@ -2,7 +2,7 @@
 use Rattle.std.proofs.Common.{◌≡◌, ℕ, zero, suc, ◌+◌, ◌*◌, ◌/◌, ◌%◌, ◌<◌, ◌≤◌, [], ◌∷◌, length, get_or, take, sym, refl, ap, ◌∙◌, mod-eq_of_lt, add-one, arith}
 use Rattle.std.specs.Int.Digits as d
 use Rattle.std.proofs.lemmas.Int.Digits.{number_more}
-use Rattle.std.proofs.lemmas.List.{length_push}
+use Rattle.std.proofs.lemmas.List.{length_push, take_all}
 use Rattle.promise.specs.Bytes.{Bytes, number_from, number, be}
 
 pub number_from_is : (n : ℕ) (b : Bytes) → number_from n b ≡ d.number_from_digits_after 256 n b
@@ -41,6 +41,25 @@ number_8 b h =
       number_take_more b 7 (omega arith),
     )
 
+-- of just so many bytes
+
+whole : (w : ℕ) (b : Bytes) → length b ≡ w → number b ≡ number (take w b)
+whole w b e = ap number (sym (take_all w b (omega arith)))
+
+pub whole_1 : (b : Bytes) → length b ≡ 1 → number b ≡ get_or b 0 0
+whole_1 b e = whole 1 b e ∙ number_1 b (omega arith)
+
+pub whole_2 : (b : Bytes) → length b ≡ 2 → number b ≡ get_or b 0 0 * 256 + get_or b 1 0
+whole_2 b e = whole 2 b e ∙ number_2 b (omega arith)
+
+pub whole_4 : (b : Bytes) → length b ≡ 4 → number b ≡ get_or b 0 0 * 16777216 + get_or b 1 0 * 65536 + get_or b 2 0 * 256 + get_or b 3 0
+whole_4 b e = whole 4 b e ∙ number_4 b (omega arith)
+
+pub whole_8 : (b : Bytes) → length b ≡ 8 →
+    number b ≡ get_or b 0 0 * 72057594037927936 + get_or b 1 0 * 281474976710656 + get_or b 2 0 * 1099511627776 + get_or b 3 0 * 4294967296
+    + get_or b 4 0 * 16777216 + get_or b 5 0 * 65536 + get_or b 6 0 * 256 + get_or b 7 0
+whole_8 b e = whole 8 b e ∙ number_8 b (omega arith)
+
 -- WRITTEN
 
 pub length_be : (w n : ℕ) → length (be w n) ≡ w
@@ -74,3 +93,6 @@ be_8 n =
     let e : n / 256 / 256 / 256 / 256 / 256 / 256 ≡ n / 281474976710656 = omega arith in
     let f : n / 256 / 256 / 256 / 256 / 256 / 256 / 256 ≡ n / 72057594037927936 = omega arith in
     cc
+
+-- numbers laid out by the library are laid out so
+pub ruleset laid_out = (whole_1, whole_2, whole_4, whole_8, be_1, be_2, be_4, be_8)

@@ -1,5 +1,5 @@
 -- There is one way to write each answer.
-use Rattle.std.proofs.Common.{◌≡◌, ℕ, ◌^◌, ◌<◌, cond, eqb, ◌∷◌, ◌++◌, Some, None, sym, ap, ◌∙◌, subst, ⊎_elim, arith}
+use Rattle.std.proofs.Common.{◌≡◌, ℕ, ◌^◌, ◌<◌, cond, eqb, ◌∷◌, ◌++◌, Some, None, sym, ap, ◌∙◌, subst, ⊎_elim}
 use Rattle.std.proofs.lemmas.List.{append-nil}
 use Rattle.promise.specs.Bytes.{Bytes, be, bind, number_in, lengthed_in, ended}
 use Rattle.promise.specs.Sheets.{Reply, No, Yes, Edition, Got, Found}
@@ -72,7 +72,7 @@ kinds_form k b x s e =
     ⊎_elim
     (λ p4. at 4 p4.0 (found_form b x s p4.1))
     (λ p4.
-    absurd (let r = p4.1 in let z : ◌≡◌ {A = ℕ} 0 1 = cc in omega arith))
+    absurd (let r = p4.1 in cc))
     (cond_some k 4 (found_in b) None x p3.1))
     (cond_some k 3 (got_in b) (cond (eqb k 4) (found_in b) None) x p2.1))
     (cond_some k 2 (edition_in b) (cond (eqb k 3) (got_in b) (cond (eqb k 4) (found_in b) None)) x p1.1))

@@ -1,11 +1,16 @@
 -- The code's answers as those of the table.
 -- Assumes nothing.
-use Rattle.std.specs.Prelude.{◌≡◌, ℕ, ◌+◌, ◌^◌, ◌<◌, Bool, true, false, cond, List, [], ◌++◌, length, Some, None, Option, ◌==◌}
+use Rattle.std.specs.Prelude.{◌≡◌, ℕ, ◌+◌, ◌^◌, ◌<◌, Bool, true, false, cond, List, [], ◌++◌, length, Some, None, Option, ◌==◌, Result, Ok, Err, MatchResult}
 use Rattle.promise.specs.Bytes.{Bytes, be}
 use Rattle.promise.specs.Sheets as t
 use Rattle.promise.specs.Layout.{bytes_out, names_in}
 use Rattle.codec.specs.declared.answer.Refusal.{Refusal}
 use Rattle.codec.specs.declared.answer.Refusal.TheVariants as r
+use Rattle.codec.specs.declared.UnknownKind.{UnknownKind}
+use Rattle.codec.specs.declared.answer.Changed.{Changed}
+use Rattle.codec.specs.declared.answer.Changed.TheVariants as ch
+use Rattle.codec.specs.declared.answer.AnswerKind.{AnswerKind}
+use Rattle.codec.specs.declared.answer.AnswerKind.TheVariants as k
 use Rattle.codec.specs.declared.answer.Answer.{Answer}
 use Rattle.codec.specs.declared.answer.Answer.TheVariants as a
 
@@ -63,6 +68,23 @@ answer_kind a.Yes = 1
 answer_kind (a.Edition e) = 2
 answer_kind (a.Read e w b) = 3
 answer_kind (a.Names k b) = 4
+
+abbrev pub answer_kind_number : AnswerKind → ℕ
+answer_kind_number k.No = 0
+answer_kind_number k.Yes = 1
+answer_kind_number k.Edition = 2
+answer_kind_number k.Read = 3
+answer_kind_number k.Names = 4
+
+-- this number is that of the kind, or no answer begins by it
+abbrev pub BeginsAnswer : ℕ → Result AnswerKind UnknownKind → Type 0
+BeginsAnswer n r = MatchResult r (λ k. answer_kind_number k ≡ n) (λ e. (e.0 ≡ n) × (4 < n))
+
+-- what became of a change, as an answer
+abbrev pub answer_of : Result Changed Refusal → Answer
+answer_of (Ok ch.Yes) = a.Yes
+answer_of (Ok (ch.Edition e)) = a.Edition e
+answer_of (Err x) = a.No x
 
 -- what follows, as it is written; Layout has the answer that it says
 abbrev pub fields_out : Answer → Bytes

@@ -1,9 +1,10 @@
 -- The code's calls as those of the table.
 -- Assumes nothing.
-use Rattle.std.specs.Prelude.{ℕ, Bool}
+use Rattle.std.specs.Prelude.{◌≡◌, ℕ, ◌≤◌, Bool, Result, MatchResult}
 use Rattle.std.specs.Borrow.{Bor}
 use Rattle.promise.specs.Bytes.{Bytes}
 use Rattle.promise.specs.Sheets as t
+use Rattle.codec.specs.declared.UnknownKind.{UnknownKind}
 use Rattle.codec.specs.declared.call.Expect.{Expect}
 use Rattle.codec.specs.declared.call.Expect.TheVariants as e
 use Rattle.codec.specs.declared.call.Kind.{Kind}
@@ -33,6 +34,10 @@ kind_number k.Rename = 5
 kind_number k.Names = 6
 kind_number k.Take = 7
 kind_number k.LetGo = 8
+
+-- this number is that of the kind, or no call begins by it
+abbrev pub BeginsCall : ℕ → Result Kind UnknownKind → Type 0
+BeginsCall n r = MatchResult r (λ kind. kind_number kind ≡ n) (λ e. (e.0 ≡ n) × (1 ≤ n → n ≤ 8 → ⊥))
 
 abbrev pub call_of : Call → t.Call
 call_of (c.Read n f m) = t.Read n.now f m

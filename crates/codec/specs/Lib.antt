@@ -1,4 +1,5 @@
 pub mod Views
+pub mod Appends
 pub mod Calls
 pub mod CallParts
 pub mod Answers

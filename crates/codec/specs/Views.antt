@@ -4,9 +4,9 @@ use Rattle.std.specs.Prelude.{ℕ}
 use Rattle.std.specs.Borrow.{Bor}
 use Rattle.promise.specs.Bytes.{Bytes}
 
--- a number, and the rest of the bytes
-abbrev pub numbered : ℕ × Bor Bytes → ℕ × Bytes
-numbered x = (x.0, x.1.now)
+-- a number of some type, and the rest of the bytes
+abbrev pub numbered : {T : Type 0} → (T → ℕ) → T × Bor Bytes → ℕ × Bytes
+numbered value x = (value x.0, x.1.now)
 
 -- a part, and the rest of the bytes
 abbrev pub parted : Bor Bytes × Bor Bytes → Bytes × Bytes

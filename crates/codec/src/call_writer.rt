@@ -1,42 +1,16 @@
 // Calls written as bytes, behind others for which there is room.
-ghost use Rattle.std.specs.Prelude.{◌≡◌, ◌+◌, ◌^◌, ◌<◌, ◌≤◌, true, [], ◌∷◌, ◌++◌, length, is_ok, if◌then◌else◌, vec_len, vec_capacity, Decides, MatchOption};
+#![tactic(auto, using(std::proofs::lemmas::List::append_assoc))]
+
+ghost use Rattle.std.specs.Prelude.{◌≡◌, ◌+◌, ◌^◌, ◌<◌, ◌≤◌, ◌↔◌, ◌++◌, is_ok, if◌then◌else◌, vec_len, vec_capacity, IsOk, IfSome};
+ghost use Rattle.std.specs.Option.{SomeIff};
 ghost use Rattle.promise.specs.Layout.{expect_out, encode_call};
-ghost use Rattle.codec.specs.Calls.{call_of, expect_of, kind_number, kind_of};
-ghost use Rattle.codec.specs.CallParts.{name_of, rest_out, expect_size, rest_size, call_size, RestFits, CallFits};
+ghost use Rattle.codec.specs.Appends.{Appends, AppendsOrKeeps};
+ghost use Rattle.codec.specs.Calls.{call_of, expect_of};
+ghost use Rattle.codec.specs.CallParts.{rest_out, expect_size, rest_size, call_size, RestFits, CallFits};
 
 use crate::DoesNotFit;
 use crate::append::*;
 use crate::call::*;
-
-fn kind_of(c: Call<'_>) -> Kind
-    ensures { result ≡ kind_of c.entry }
-{
-    match c {
-        Call::Read { .. } => Kind::Read,
-        Call::Put { .. } => Kind::Put,
-        Call::Patch { .. } => Kind::Patch,
-        Call::Remove { .. } => Kind::Remove,
-        Call::Rename { .. } => Kind::Rename,
-        Call::Names { .. } => Kind::Names,
-        Call::Take { .. } => Kind::Take,
-        Call::LetGo { .. } => Kind::LetGo,
-    }
-}
-
-fn name_of<'a>(c: Call<'a>) -> &'a [u8]
-    ensures { result.now ≡ name_of (call_of c.entry) }
-{
-    match c {
-        Call::Read { name, .. } => name,
-        Call::Put { name, .. } => name,
-        Call::Patch { name, .. } => name,
-        Call::Remove { name, .. } => name,
-        Call::Rename { name, .. } => name,
-        Call::Names { after, .. } => after,
-        Call::Take { name, .. } => name,
-        Call::LetGo { name } => name,
-    }
-}
 
 fn expect_size(expect: Expect) -> usize
     ensures { result ≡ expect_size (expect_of expect) }
@@ -49,29 +23,15 @@ fn expect_size(expect: Expect) -> usize
 
 // How many bytes follow the name of a call; None where a length does not fit its field.
 fn rest_size(c: Call<'_>) -> Option<usize>
-    ensures { MatchOption result (RestFits (call_of c.entry) → ⊥) (λ n. RestFits (call_of c.entry) × (n ≡ rest_size (call_of c.entry)) × (n < 2 ^ 33)) }
+    ensures size { SomeIff result (RestFits (call_of c.entry)) (rest_size (call_of c.entry)) }
+    ensures bound { IfSome result (λ n. n < 2 ^ 33) }
 {
     match c {
         Call::Read { .. } => Some(8),
-        Call::Put { expect, bytes, .. } => {
-            if bytes.len() > 0xffff_ffff {
-                return None;
-            }
-            Some(expect_size(expect) + 4 + bytes.len())
-        }
-        Call::Patch { expect, bytes, .. } => {
-            if bytes.len() > 0xffff_ffff {
-                return None;
-            }
-            Some(8 + expect_size(expect) + bytes.len())
-        }
+        Call::Put { expect, bytes, .. } => Some(expect_size(expect) + bytes_size(bytes)?),
+        Call::Patch { expect, bytes, .. } => Some(4 + expect_size(expect) + bytes_size(bytes)?),
         Call::Remove { expect, .. } => Some(expect_size(expect)),
-        Call::Rename { new, .. } => {
-            if new.len() > 255 {
-                return None;
-            }
-            Some(1 + new.len())
-        }
+        Call::Rename { new, .. } => name_size(new),
         Call::Names { .. } => Some(2),
         Call::Take { .. } => Some(1),
         Call::LetGo { .. } => Some(0),
@@ -80,30 +40,27 @@ fn rest_size(c: Call<'_>) -> Option<usize>
 
 fn append_expect(v: &mut Vec<u8>, expect: Expect)
     requires { vec_len v.old + expect_size (expect_of expect) ≤ vec_capacity v.old }
-    ensures items { v.new.items ≡ v.old.items ++ expect_out (expect_of expect) }
-    ensures len { vec_len v.new ≡ vec_len v.old + expect_size (expect_of expect) }
-    ensures cap { vec_capacity v.new ≡ vec_capacity v.old }
+    ensures { Appends v.old v.new (expect_size (expect_of expect)) (expect_out (expect_of expect)) }
 {
     match expect {
         Expect::Any => v.push_reserved(0),
         Expect::Just(edition) => {
             v.push_reserved(1);
-            append_u64(v, edition.0);
+            append_number(v, edition.0);
         }
     }
 }
 
 // What follows the name of a call.
 fn append_rest(v: &mut Vec<u8>, c: Call<'_>)
-    requires { (RestFits (call_of c)) × (vec_len v.old + rest_size (call_of c) ≤ vec_capacity v.old) }
-    ensures items { v.new.items ≡ v.old.items ++ rest_out (call_of c.entry) }
-    ensures len { vec_len v.new ≡ vec_len v.old + rest_size (call_of c.entry) }
-    ensures cap { vec_capacity v.new ≡ vec_capacity v.old }
+    requires fits { RestFits (call_of c) }
+    requires room { vec_len v.old + rest_size (call_of c) ≤ vec_capacity v.old }
+    ensures { Appends v.old v.new (rest_size (call_of c.entry)) (rest_out (call_of c.entry)) }
 {
     match c {
         Call::Read { start, most, .. } => {
-            append_u32(v, start);
-            append_u32(v, most);
+            append_number(v, start);
+            append_number(v, most);
         }
         Call::Put { expect, bytes, .. } => {
             append_expect(v, expect);
@@ -115,37 +72,29 @@ fn append_rest(v: &mut Vec<u8>, c: Call<'_>)
             bytes,
             ..
         } => {
-            append_u32(v, at);
+            append_number(v, at);
             append_expect(v, expect);
             append_bytes(v, bytes);
         }
         Call::Remove { expect, .. } => append_expect(v, expect),
         Call::Rename { new, .. } => append_name(v, new),
-        Call::Names { most, .. } => append_u16(v, most),
+        Call::Names { most, .. } => append_number(v, most),
         Call::Take { alone, .. } => v.push_reserved(u8::from(alone)),
         Call::LetGo { .. } => {}
     }
 }
 
 // A call behind what is there already. Where it does not fit, all stays as it was.
+#[tactic(auto, using(std::proofs::lemmas::List::append_assoc, crate::proofs::CallsOut::call_parts))]
 pub fn write_call(v: &mut Vec<u8>, c: Call<'_>) -> Result<(), DoesNotFit>
-    ensures fits { Decides (is_ok result) (CallFits (call_of c.entry) × (vec_len v.old + call_size (call_of c.entry) ≤ vec_capacity v.old)) }
-    ensures items { v.new.items ≡ (if is_ok result then v.old.items ++ encode_call (call_of c.entry) else v.old.items) }
-    ensures len { vec_len v.new ≡ (if is_ok result then vec_len v.old + call_size (call_of c.entry) else vec_len v.old) }
-    ensures cap { vec_capacity v.new ≡ vec_capacity v.old }
+    ensures fits { IsOk result ↔ (CallFits (call_of c.entry) × (vec_len v.old + call_size (call_of c.entry) ≤ vec_capacity v.old)) }
+    ensures written { AppendsOrKeeps result v.old v.new (call_size (call_of c.entry)) (encode_call (call_of c.entry)) }
 {
-    let name = name_of(c);
-    if name.len() > 255 {
-        return Err(DoesNotFit);
-    }
-    let Some(rest) = rest_size(c) else {
-        return Err(DoesNotFit);
-    };
-    if v.capacity() - v.len() < 2 + name.len() + rest {
-        return Err(DoesNotFit);
-    }
-    v.push_reserved(kind_of(c) as u8);
-    append_name(v, name);
+    let name = name_size(c.name()).ok_or(DoesNotFit)?;
+    let rest = rest_size(c).ok_or(DoesNotFit)?;
+    check_room(v, 1 + name + rest)?;
+    v.push_reserved(c.kind() as u8);
+    append_name(v, c.name());
     append_rest(v, c);
     Ok(())
 }

@@ -14,10 +14,33 @@ mod refusal;
 
 pub use answer_reader::{next_name, read_answer};
 pub use answer_writer::write_answer;
+pub use bytes::{Number, read_number};
 pub use call_reader::read_call;
 pub use call_writer::write_call;
 pub use frame::{read_frame, write_frame};
+use std::error::Error;
+use std::fmt;
 
 // There is not room enough for what is to be written, or a length is too long for its field.
-#[derive(Clone, Copy)]
+#[derive(Clone, Copy, Debug, PartialEq, Eq)]
 pub struct DoesNotFit;
+
+impl fmt::Display for DoesNotFit {
+    fn fmt<W: fmt::Write>(&self, f: &mut fmt::Formatter<W>) -> fmt::Result {
+        f.write_str("it does not fit")
+    }
+}
+
+impl Error for DoesNotFit {}
+
+// A first byte by which nothing begins.
+#[derive(Clone, Copy, Debug, PartialEq, Eq)]
+pub struct UnknownKind(pub u8);
+
+impl fmt::Display for UnknownKind {
+    fn fmt<W: fmt::Write>(&self, f: &mut fmt::Formatter<W>) -> fmt::Result {
+        write!(f, "nothing begins by the byte {}", self.0)
+    }
+}
+
+impl Error for UnknownKind {}

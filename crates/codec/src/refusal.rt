@@ -4,11 +4,11 @@ ghost use Rattle.codec.specs.Answers.{refusal_number, refusal_of};
 
 use crate::answer::Refusal;
 
-impl Refusal {
-    pub fn number(self) -> u8
-        ensures { result ≡ refusal_number self }
-    {
-        match self {
+impl From<Refusal> for u8 {
+    ghost from_gives = { λ refusal number. number ≡ refusal_number refusal };
+
+    fn from(refusal: Refusal) -> u8 {
+        match refusal {
             Refusal::OutOfRange => 1,
             Refusal::Missing => 2,
             Refusal::Present => 3,
@@ -21,11 +21,12 @@ impl Refusal {
             Refusal::Other(number) => number,
         }
     }
+}
 
-    pub fn of(number: u8) -> Refusal
-        ensures value { result ≡ refusal_of number }
-        ensures back { refusal_number result ≡ number }
-    {
+impl From<u8> for Refusal {
+    ghost from_gives = { λ number refusal. (refusal ≡ refusal_of number) × (refusal_number refusal ≡ number) };
+
+    fn from(number: u8) -> Refusal {
         match number {
             1 => Refusal::OutOfRange,
             2 => Refusal::Missing,

@@ -5,82 +5,58 @@
 mod tests {
     use codec::answer::{Answer, Refusal};
     use codec::call::{Call, Expect};
-    use codec::{read_answer, read_call, read_frame, write_answer, write_call, write_frame};
+    use codec::{
+        DoesNotFit, read_answer, read_call, read_frame, write_answer, write_call, write_frame,
+    };
     use ids::{CallNumber, Edition};
     use std::alloc::{AllocError, Global};
     use std::test::Fail;
 
-    // Whether a call is written as these bytes, and they are read as a call that is written so again.
-    fn call_is(heap: Global, call: Call<'_>, bytes: &[u8]) -> Result<bool, AllocError> {
+    // Whether just these bytes are written, where there is just room for them.
+    fn writes<F>(heap: Global, write: F, bytes: &[u8]) -> Result<bool, AllocError>
+    where
+        F: FnOnce(&mut Vec<u8>) -> Result<(), DoesNotFit>,
+        requires { (v : _) → F.pre write v }
+    {
         let mut v = Vec::with_capacity(heap, bytes.len())?;
-        let mut w = Vec::with_capacity(heap, bytes.len())?;
-        let _ = write_call(&mut v, call);
-        if let Some(again) = read_call(bytes) {
-            let _ = write_call(&mut w, again);
-        }
-        Ok(v.as_slice() == bytes && w.as_slice() == bytes)
-    }
-
-    fn answer_is(heap: Global, answer: Answer<'_>, bytes: &[u8]) -> Result<bool, AllocError> {
-        let mut v = Vec::with_capacity(heap, bytes.len())?;
-        let mut w = Vec::with_capacity(heap, bytes.len())?;
-        let _ = write_answer(&mut v, answer);
-        if let Some(again) = read_answer(bytes) {
-            let _ = write_answer(&mut w, again);
-        }
-        Ok(v.as_slice() == bytes && w.as_slice() == bytes)
+        let _ = write(&mut v);
+        Ok(v.as_slice() == bytes)
     }
 
     // Whether no part of these bytes that is cut short is a call.
     fn whole_only(bytes: &[u8]) -> bool {
-        for n in 0..bytes.len() {
-            if read_call(&bytes[0..n]).is_some() {
-                return false;
-            }
-        }
-        true
+        (0..bytes.len()).all(|n| read_call(&bytes[..n]).is_none())
     }
 
     #[test]
     fn calls(rt: HostRuntime) -> Result<(), Fail> {
-        let heap = rt.alloc();
         let name = b"ab";
-        assert!(rt;
-            call_is(
-                heap,
+        let calls: [(Call<'_>, &[u8]); 10] = [
+            (
                 Call::Read {
                     name,
                     start: 1,
                     most: 0xffff_ffff,
                 },
                 b"\x01\x02ab\x00\x00\x00\x01\xff\xff\xff\xff",
-            )?
-        );
-        assert!(rt;
-            call_is(
-                heap,
+            ),
+            (
                 Call::Put {
                     name,
                     expect: Expect::Any,
                     bytes: b"xyz",
                 },
                 b"\x02\x02ab\x00\x00\x00\x00\x03xyz",
-            )?
-        );
-        assert!(rt;
-            call_is(
-                heap,
+            ),
+            (
                 Call::Put {
                     name,
                     expect: Expect::Just(Edition(0)),
                     bytes: b"",
                 },
                 b"\x02\x02ab\x01\x00\x00\x00\x00\x00\x00\x00\x00\x00\x00\x00\x00",
-            )?
-        );
-        assert!(rt;
-            call_is(
-                heap,
+            ),
+            (
                 Call::Patch {
                     name,
                     at: 258,
@@ -88,32 +64,30 @@ mod tests {
                     bytes: b"x",
                 },
                 b"\x03\x02ab\x00\x00\x01\x02\x01\x40\x00\x00\x00\x00\x00\x00\x00\x00\x00\x00\x01x",
-            )?
-        );
-        assert!(rt;
-            call_is(
-                heap,
+            ),
+            (
                 Call::Remove {
                     name,
                     expect: Expect::Any,
                 },
                 b"\x04\x02ab\x00",
-            )?
-        );
-        assert!(rt; call_is(heap, Call::Rename { name, new: b"" }, b"\x05\x02ab\x00")?);
-        assert!(rt;
-            call_is(
-                heap,
+            ),
+            (Call::Rename { name, new: b"" }, b"\x05\x02ab\x00"),
+            (
                 Call::Names {
                     after: b"",
                     most: 65535,
                 },
                 b"\x06\x00\xff\xff",
-            )?
-        );
-        assert!(rt; call_is(heap, Call::Take { name, alone: true }, b"\x07\x02ab\x01")?);
-        assert!(rt; call_is(heap, Call::Take { name, alone: false }, b"\x07\x02ab\x00")?);
-        assert!(rt; call_is(heap, Call::LetGo { name }, b"\x08\x02ab")?);
+            ),
+            (Call::Take { name, alone: true }, b"\x07\x02ab\x01"),
+            (Call::Take { name, alone: false }, b"\x07\x02ab\x00"),
+            (Call::LetGo { name }, b"\x08\x02ab"),
+        ];
+        for (call, bytes) in calls {
+            assert!(rt; writes(rt.alloc(), |v| write_call(v, call), bytes)?);
+            assert!(rt; read_call(bytes) == Some(call));
+        }
         Ok(())
     }
 
@@ -152,68 +126,53 @@ mod tests {
 
     #[test]
     fn answers(rt: HostRuntime) -> Result<(), Fail> {
-        let heap = rt.alloc();
-        assert!(rt; answer_is(heap, Answer::No(Refusal::EightWait), b"\x00\x0b")?);
-        assert!(rt; answer_is(heap, Answer::No(Refusal::Other(200)), b"\x00\xc8")?);
-        assert!(rt; answer_is(heap, Answer::Yes, b"\x01")?);
-        assert!(rt;
-            answer_is(
-                heap,
+        let answers: [(Answer<'_>, &[u8]); 7] = [
+            (Answer::No(Refusal::EightWait), b"\x00\x0b"),
+            (Answer::No(Refusal::Other(200)), b"\x00\xc8"),
+            (Answer::Yes, b"\x01"),
+            (
                 Answer::Edition(Edition(0x4000_0000_0000_0000)),
                 b"\x02\x40\x00\x00\x00\x00\x00\x00\x00",
-            )?
-        );
-        assert!(rt;
-            answer_is(
-                heap,
+            ),
+            (
                 Answer::Read {
                     edition: Edition(3),
                     whole: 7,
                     bytes: b"xy",
                 },
                 b"\x03\x00\x00\x00\x00\x00\x00\x00\x03\x00\x00\x00\x07\x00\x00\x00\x02xy",
-            )?
-        );
-        assert!(rt;
-            answer_is(
-                heap,
+            ),
+            (
                 Answer::Names {
                     count: 0,
                     names: b"",
                 },
                 b"\x04\x00\x00",
-            )?
-        );
-        assert!(rt;
-            answer_is(
-                heap,
+            ),
+            (
                 Answer::Names {
                     count: 2,
                     names: b"\x01a\x02bc",
                 },
                 b"\x04\x00\x02\x01a\x02bc",
-            )?
-        );
+            ),
+        ];
+        for (answer, bytes) in answers {
+            assert!(rt; writes(rt.alloc(), |v| write_answer(v, answer), bytes)?);
+            assert!(rt; read_answer(bytes) == Some(answer));
+        }
         assert!(rt; read_answer(b"\x04\x00\x02\x01a").is_none());
         assert!(rt; read_answer(b"\x01\x00").is_none());
         assert!(rt; read_answer(b"\x05").is_none());
         Ok(())
     }
 
-    fn frame_is(heap: Global, number: u64, bytes: &[u8], whole: &[u8]) -> Result<bool, AllocError> {
-        let mut v = Vec::with_capacity(heap, whole.len())?;
-        let _ = write_frame(&mut v, CallNumber(number), bytes);
-        Ok(v.as_slice() == whole)
-    }
-
     #[test]
     fn frames(rt: HostRuntime) -> Result<(), Fail> {
-        let heap = rt.alloc();
         assert!(rt;
-            frame_is(
-                heap,
-                258,
-                b"x",
+            writes(
+                rt.alloc(),
+                |v| write_frame(v, CallNumber(258), b"x"),
                 b"\x00\x00\x00\x09\x00\x00\x00\x00\x00\x00\x01\x02x",
             )?
         );
