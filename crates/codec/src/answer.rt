@@ -28,7 +28,7 @@ pub enum Refusal {
 }
 
 // What a change that was done is answered.
-#[derive(Clone, Copy, PartialEq, Eq)]
+#[derive(Clone, Copy, Debug, PartialEq, Eq)]
 pub enum Changed {
     Yes,
     Edition(Edition),
@@ -37,7 +37,7 @@ pub enum Changed {
 // What became of a change: it was done, or turned away.
 pub type Outcome = Result<Changed, Refusal>;
 
-#[derive(Clone, Copy, PartialEq, Eq)]
+#[derive(Clone, Copy, Debug, PartialEq, Eq)]
 pub enum Answer<'a> {
     No(Refusal),
     Yes,

@@ -4,13 +4,13 @@ use ids::Edition;
 
 // Which edition a change expects its sheet to have; edition 0 is a sheet that isn't there.
 // An enum of its own, as this project asks for: the `None` of an `Option` would read as no sheet.
-#[derive(Clone, Copy, PartialEq, Eq)]
+#[derive(Clone, Copy, Debug, PartialEq, Eq)]
 pub enum Expect {
     Any,
     Just(Edition),
 }
 
-#[derive(Clone, Copy, PartialEq, Eq)]
+#[derive(Clone, Copy, Debug, PartialEq, Eq)]
 pub enum Call<'a> {
     Read {
         name: &'a [u8],

@@ -11,7 +11,7 @@ use crate::append::*;
 use crate::bytes::*;
 use ids::CallNumber;
 
-#[derive(Clone, Copy, PartialEq, Eq)]
+#[derive(Clone, Copy, Debug, PartialEq, Eq)]
 pub struct Frame<'a> {
     pub number: CallNumber,
     pub bytes: &'a [u8],
