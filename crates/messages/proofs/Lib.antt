@@ -1,6 +1,5 @@
 pub mod Words
 pub mod Laid
-pub mod Behind
 pub mod Back
 pub mod Cut
 pub mod Form

@@ -1,7 +1,8 @@
 -- Words of 8 bytes, and the sum over them.
-use Rattle.std.proofs.Common.{◌≡◌, ℕ, ◌+◌, ◌-◌, ◌*◌, ◌/◌, ◌<◌, ◌≤◌, ◌++◌, length, get_or, take, drop, replicate, sym, refl, ap, ◌∙◌, ⊎_elim, add-zero, add-one, arith}
-use Rattle.std.proofs.lemmas.List.{length-append, length-drop, length-replicate, get_or-drop, get_or-take, take_rest, drop-replicate, get_or_past, get_or_append_left, get_or-append_right, get_or-replicate}
+use Rattle.std.proofs.Common.{◌≡◌, ℕ, ◌+◌, ◌-◌, ◌*◌, ◌/◌, zero, suc, ◌<◌, ◌≤◌, List, [], ◌++◌, length, get_or, take, drop, replicate, sym, refl, ap, ◌∙◌, ⊎_elim, zero-mul, suc-mul, add-one, arith}
+use Rattle.std.proofs.lemmas.List.{length-append, length-drop, length-replicate, drop-drop, get_or-drop, get_or-take, take_all, drop-replicate, get_or_past, get_or_append_left, get_or-append_right, get_or-replicate}
 use Rattle.std.proofs.lemmas.Bool.{cases_lt}
+use Rattle.std.specs.Simd.{first_chunks}
 use Rattle.promise.specs.Bytes.{Bytes, number}
 use Rattle.codec.specs.Sum.{word, mixed, joined, lane_to, sum_to, sum_of}
 use Rattle.codec.proofs.Numbers.{number_8}
@@ -31,15 +32,8 @@ get_or_zeros b n i =
           (λ (h : n ≤ j). get_or_past (replicate n 0) j 0 (omega (arith, length-replicate {A = ℕ} n 0)))
           (cases_lt j n)
 
--- eight bytes from a place on
-pub number_at : (b : Bytes) (at : ℕ) → at + 8 ≤ length b →
-    number (take 8 (drop at b)) ≡ get_or b at 0 * 72057594037927936 + get_or b (at + 1) 0 * 281474976710656 + get_or b (at + 2) 0 * 1099511627776 + get_or b (at + 3) 0 * 4294967296
-    + get_or b (at + 4) 0 * 16777216 + get_or b (at + 5) 0 * 65536 + get_or b (at + 6) 0 * 256 + get_or b (at + 7) 0
-number_at b at h =
-    number_8 (drop at b) (omega (arith, length-drop at b))
-    ∙ eight_same (λ i. get_or (drop at b) i 0) (λ i. get_or b (at + i) 0) (λ i l. get_or-drop at b i 0)
-    ∙ ap (λ n. get_or b n 0 * 72057594037927936 + get_or b (at + 1) 0 * 281474976710656 + get_or b (at + 2) 0 * 1099511627776 + get_or b (at + 3) 0 * 4294967296
-    + get_or b (at + 4) 0 * 16777216 + get_or b (at + 5) 0 * 65536 + get_or b (at + 6) 0 * 256 + get_or b (at + 7) 0) (add-zero at)
+pub number_whole : (b : Bytes) → length b ≡ 8 → number b ≡ eight (λ i. get_or b i 0)
+number_whole b e = ap number (sym (take_all 8 b (omega arith))) ∙ number_8 b (omega arith)
 
 -- a word by what stands at each place
 pub word_is : (b : Bytes) (k : ℕ) → word b k ≡ eight (λ i. get_or b (8 * k + i) 0)
@@ -50,11 +44,25 @@ word_is b k =
     number_8 x (omega arith) ∙ eight_same (λ i. get_or x i 0) (λ i. get_or b (8 * k + i) 0) (λ i h. get_or_zeros (drop (8 * k) b) 8 i ∙ get_or-drop (8 * k) b i 0)
 
 -- eight bytes that are there
-pub word_there : (b : Bytes) (k at : ℕ) → at ≡ 8 * k → at + 8 ≤ length b → number (take 8 (drop at b)) ≡ word b k
+word_there : (b : Bytes) (k at : ℕ) → at ≡ 8 * k → at + 8 ≤ length b → number (take 8 (drop at b)) ≡ word b k
 word_there b k at e h =
     number_8 (drop at b) (omega (arith, length-drop at b))
     ∙ eight_same (λ i. get_or (drop at b) i 0) (λ i. get_or b (8 * k + i) 0) (λ i l. get_or-drop at b i 0 ∙ ap (λ n. get_or b (n + i) 0) e)
     ∙ sym (word_is b k)
+
+-- a chunk by its place
+chunk_at : (n k j : ℕ) (xs : Bytes) → j < k → get_or (first_chunks n k xs) j [] ≡ take n (drop (j * n) xs)
+chunk_at n zero j xs h = absurd (omega arith)
+chunk_at n (suc k) zero xs h = ap (λ i. take n (drop i xs)) (sym (zero-mul n))
+chunk_at n (suc k) (suc j) xs h =
+    let e : n + j * n ≡ suc j * n = omega (arith, suc-mul j n) in
+    chunk_at n k j (drop n xs) (omega arith) ∙ ap (take n) (drop-drop (j * n) n xs ∙ ap (λ i. drop i xs) e)
+
+-- a chunk of eight bytes is a word
+pub word_chunk : (words : List Bytes) (block : Bytes) (k : ℕ) → words ≡ first_chunks 8 (length block / 8) block → length block ≡ 32 → k < 4 →
+    number (get_or words k []) ≡ word block k
+word_chunk words block k e l h =
+    ap (λ x. number (get_or x k [])) e ∙ ap number (chunk_at 8 (length block / 8) k block (omega arith)) ∙ word_there block k (k * 8) (omega arith) (omega arith)
 
 -- a word of a block of four is one of the whole
 pub word_block : (b block : Bytes) (k l : ℕ) → l < 4 → ((i : ℕ) → i < 32 → get_or block i 0 ≡ get_or b (32 * k + i) 0) → word block l ≡ word b (4 * k + l)
@@ -66,20 +74,20 @@ word_block b block k l h same =
 
 -- the blocks that the code hands on
 
-pub block_at : (b : Bytes) (k i : ℕ) → i < 32 → get_or (take (32 * k + 32 - 32 * k) (drop (32 * k) b)) i 0 ≡ get_or b (32 * k + i) 0
-block_at b k i h = get_or-take (32 * k + 32 - 32 * k) (drop (32 * k) b) i 0 (omega arith) ∙ get_or-drop (32 * k) b i 0
+pub block_at : (blocks : List Bytes) (b : Bytes) (k i : ℕ) → blocks ≡ first_chunks 32 (length b / 32) b → k < length b / 32 → i < 32 →
+    get_or (get_or blocks k []) i 0 ≡ get_or b (32 * k + i) 0
+block_at blocks b k i e h j =
+    let n : k * 32 + i ≡ 32 * k + i = omega arith in
+    ap (λ x. get_or (get_or x k []) i 0) e ∙ ap (λ x. get_or x i 0) (chunk_at 32 (length b / 32) k b h)
+    ∙ get_or-take 32 (drop (k * 32) b) i 0 j ∙ get_or-drop (k * 32) b i 0 ∙ ap (λ x. get_or b x 0) n
 
-pub tail_at : (b : Bytes) (k n i : ℕ) → get_or (take (length b - 32 * k) (drop (32 * k) b) ++ replicate n 0) i 0 ≡ get_or b (32 * k + i) 0
-tail_at b k n i = get_or_zeros (take (length b - 32 * k) (drop (32 * k) b)) n i ∙ ap (λ x. get_or x i 0) (take_rest b (32 * k)) ∙ get_or-drop (32 * k) b i 0
+pub rest_at : (rest b : Bytes) (n i : ℕ) → rest ≡ drop (length b / 32 * 32) b → get_or (rest ++ replicate n 0) i 0 ≡ get_or b (32 * (length b / 32) + i) 0
+rest_at rest b n i e =
+    let m : length b / 32 * 32 + i ≡ 32 * (length b / 32) + i = omega arith in
+    get_or_zeros rest n i ∙ ap (λ x. get_or x i 0) e ∙ get_or-drop (length b / 32 * 32) b i 0 ∙ ap (λ x. get_or b x 0) m
 
-pub padded_is : (b s : Bytes) → s ≡ b → s ++ drop (length b - 0) (replicate 32 0) ≡ b ++ replicate (32 - length b) 0
-padded_is b s e =
-    let z : length b - 0 ≡ length b = omega arith in
-    ap (λ x. x ++ drop (length b - 0) (replicate 32 0)) e ∙ ap (λ n. b ++ drop n (replicate 32 0)) z ∙ ap (λ x. b ++ x) (drop-replicate (length b) 32 0)
-
-pub lanes_start : (x : Lanes) (b : Bytes) → x.first ≡ 0xCBF2_9CE4_8422_2325 → x.second ≡ 0xCBF2_9CE4_8422_2326 → x.third ≡ 0xCBF2_9CE4_8422_2327 → x.fourth ≡ 0xCBF2_9CE4_8422_2328 → LanesAt x b 0
-unfolding lane_to
-lanes_start x b e0 e1 e2 e3 = record { first = e0; second = e1; third = e2; fourth = e3 }
+pub padded_is : (b s : Bytes) → s ≡ b → s ++ drop (length b) (replicate 32 0) ≡ b ++ replicate (32 - length b) 0
+padded_is b s e = ap (λ x. x ++ drop (length b) (replicate 32 0)) e ∙ ap (λ x. b ++ x) (drop-replicate (length b) 32 0)
 
 lane_more : (b : Bytes) (l k h w : ℕ) → h ≡ lane_to b l k → w ≡ word b (4 * k + l) → mixed h w ≡ lane_to b l (k + 1)
 unfolding lane_to

@@ -1,22 +1,30 @@
 -- The code's messages as those that house and desks are said to send.
 -- Assumes nothing.
-use Rattle.std.specs.Prelude.{◌≡◌, ℕ, ◌+◌, ◌^◌, ◌<◌, false, [], length}
+use Rattle.std.specs.Prelude.{◌≡◌, ℕ, ◌+◌, ◌^◌, ◌<◌, false, [], length, Some, Option}
 use Rattle.std.specs.Borrow.{Bor}
-use Rattle.promise.specs.Bytes.{Bytes}
+use Rattle.promise.specs.Bytes.{Bytes, bind, number_in, ended}
 use Rattle.promise.specs.Layout.{is_busy}
 use Rattle.codec.specs.Messages.{Msg, Hello, Welcome, Request, Response, Alive}
+use Rattle.ids.specs.declared.RequestId.{RequestId}
 use Rattle.messages.specs.declared.message.Message.{Message}
 use Rattle.messages.specs.declared.message.Message.TheVariants as m
 
--- a number, and the rest of the bytes
-abbrev pub numbered : ℕ × Bor Bytes → ℕ × Bytes
-numbered x = (x.0, x.1.now)
+-- a number with nothing behind it
+abbrev pub last_number_in : Bytes → Option ℕ
+last_number_in b = bind (number_in 8 b) (λ n. ended n.0 n.1)
+
+-- session, slot and seq, and the rest of the bytes
+abbrev pub request_id_in : Bytes → Option (ℕ × ℕ × ℕ × Bytes)
+request_id_in b = bind (number_in 8 b) (λ s. bind (number_in 1 s.1) (λ j. bind (number_in 8 j.1) (λ q. Some (s.0, j.0, q.0, q.1))))
+
+abbrev pub identified : RequestId × Bor Bytes → ℕ × ℕ × ℕ × Bytes
+identified x = (x.0.session.0, x.0.slot.0, x.0.seq.0, x.1.now)
 
 abbrev pub msg_of : Message → Msg
 msg_of (m.Hello c) = Hello c.0
 msg_of (m.Welcome c s) = Welcome c.0 s.0
-msg_of (m.Request s j q c) = Request s.0 j.0 q.0 c.now
-msg_of (m.Response s j q g a) = Response s.0 j.0 q.0 g.0 a.now
+msg_of (m.Request r c) = Request r.session.0 r.slot.0 r.seq.0 c.now
+msg_of (m.Response r g a) = Response r.session.0 r.slot.0 r.seq.0 g.0 a.now
 msg_of (m.Alive s) = Alive s.0
 
 -- how many bytes stand before the call or the answer that a message ends with

@@ -1,7 +1,7 @@
 // What house and desks say to each other, as bytes, with a sum by which noise is told from messages.
 #![tactic(auto)]
 
-mod bytes;
+mod kind;
 mod message;
 mod put;
 mod reader;
@@ -11,5 +11,5 @@ mod writer;
 
 pub use message::Message;
 pub use reader::read_message;
-pub use seal::seal_response;
-pub use writer::{seal_request, write_message};
+pub use seal::{seal_request, seal_response};
+pub use writer::write_message;

@@ -1,25 +1,37 @@
-// The front of a response, written into a lent part before the answer that is there.
-ghost use Rattle.std.specs.Prelude.{◌≡◌, ◌+◌, ◌^◌, ◌<◌, ◌≤◌, length, drop, is_ok, if◌then◌else◌, Decides};
-ghost use Rattle.codec.specs.Messages.{Response, encode_msg};
+// The front of a request or a response, written into a lent part before the call or the answer that is there. Where there is no room for it, or
+// what is there is too long, all stays as it was.
+ghost use Rattle.std.specs.Prelude.{◌≡◌, ◌+◌, ◌^◌, ◌<◌, ◌≤◌, ◌↔◌, length, drop, is_ok, if◌then◌else◌, IsTrue, IsOk};
+ghost use Rattle.codec.specs.Messages.{Request, Response, encode_msg};
 
-use crate::put::put_response;
+use crate::message::{REQUEST_HEAD, RESPONSE_HEAD, TOO_LONG};
+use crate::put::{put_request, put_response};
 use codec::DoesNotFit;
-use ids::*;
+use ids::{Grant, RequestId};
 
-// Where there is no room for it, or the answer is too long, all stays as it was.
-pub fn seal_response(
-    part: &mut [u8],
-    session: Session,
-    slot: SlotId,
-    seq: Seq,
-    grant: Grant,
-) -> Result<(), DoesNotFit>
-    ensures fits { Decides (is_ok result) ((38 ≤ length part.old) × (length part.old < 38 + 2 ^ 31)) }
-    ensures value { part.new ≡ (if is_ok result then encode_msg (Response session.0 slot.0 seq.0 grant.0 (drop 38 part.old)) else part.old) }
+fn has_front(part: &[u8], front: usize) -> bool
+    ensures { IsTrue result ↔ ((front ≤ length part.now) × (length part.now < front + 2 ^ 31)) }
 {
-    if part.len() < 38 || part.len() >= 0x8000_0026 {
+    front <= part.len() && part.len() - front < TOO_LONG
+}
+
+pub fn seal_request(part: &mut [u8], request: RequestId) -> Result<(), DoesNotFit>
+    ensures fits { IsOk result ↔ ((30 ≤ length part.old) × (length part.old < 30 + 2 ^ 31)) }
+    ensures value { part.new ≡ (if is_ok result then encode_msg (Request request.session.0 request.slot.0 request.seq.0 (drop 30 part.old)) else part.old) }
+{
+    if !has_front(part, REQUEST_HEAD) {
         return Err(DoesNotFit);
     }
-    put_response(part, session, slot, seq, grant);
+    put_request(part, request);
+    Ok(())
+}
+
+pub fn seal_response(part: &mut [u8], request: RequestId, grant: Grant) -> Result<(), DoesNotFit>
+    ensures fits { IsOk result ↔ ((38 ≤ length part.old) × (length part.old < 38 + 2 ^ 31)) }
+    ensures value { part.new ≡ (if is_ok result then encode_msg (Response request.session.0 request.slot.0 request.seq.0 grant.0 (drop 38 part.old)) else part.old) }
+{
+    if !has_front(part, RESPONSE_HEAD) {
+        return Err(DoesNotFit);
+    }
+    put_response(part, request, grant);
     Ok(())
 }

@@ -1,8 +1,10 @@
 // The sum that stands in every message.
-ghost use Rattle.std.specs.Prelude.{◌≡◌, ◌+◌, ◌-◌, ◌<◌, ◌≤◌, ◌++◌, length, take, drop, replicate};
-ghost use Rattle.promise.specs.Bytes.{number};
+ghost use Rattle.std.specs.Prelude.{◌≡◌, ◌+◌, ◌-◌, ◌<◌, ◌≤◌, ◌++◌, length, replicate};
+ghost use Rattle.promise.specs.Bytes.{Bytes};
 ghost use Rattle.codec.specs.Sum.{word, mixed, joined, lane_to, sum_of};
 ghost use Rattle.messages.specs.Lanes.{LanesAt, MixedIn};
+
+use codec::Number;
 
 #[derive(Clone, Copy)]
 struct Lanes {
@@ -18,35 +20,20 @@ fn mix(h: u64, word: u64) -> u64
     (h ^ (word ^ (word >> 32))).wrapping_mul(0x9E37_79B9_7F4A_7C15)
 }
 
-fn word_at(b: &[u8], at: usize) -> u64
-    requires { at + 8 ≤ length b.now }
-    ensures { result ≡ number (take 8 (drop at b.now)) }
-{
-    u64::from_be_bytes([
-        b[at],
-        b[at + 1],
-        b[at + 2],
-        b[at + 3],
-        b[at + 4],
-        b[at + 5],
-        b[at + 6],
-        b[at + 7],
-    ])
-}
-
 // Bytes, and zeros behind them.
 fn padded(b: &[u8]) -> [u8; 32]
     requires { length b.now ≤ 32 }
     ensures { result ≡ b.now ++ replicate (32 - length b.now) 0 }
 {
     let mut block = [0; 32];
-    block[0..b.len()].copy_from_slice(b);
+    block[..b.len()].copy_from_slice(b);
     block
 }
 
 impl Lanes {
-    fn start(b: &[u8]) -> Lanes
-        ensures { LanesAt result b.now 0 }
+    #[tactic(auto, unfolding(codec::specs::Sum::lane_to))]
+    fn new() -> Lanes
+        ensures { (b : Bytes) → LanesAt result b 0 }
     {
         Lanes {
             first: 0xCBF2_9CE4_8422_2325,
@@ -57,15 +44,16 @@ impl Lanes {
     }
 
     // Four words more.
-    fn mixed_with(self, block: &[u8]) -> Lanes
-        requires { length block.now ≡ 32 }
+    #[tactic(auto, using(crate::proofs::Words::word_chunk))]
+    fn mixed_with(self, block: &[u8; 32]) -> Lanes
         ensures { MixedIn self result block.now }
     {
+        let (words, _) = block.as_chunks::<8>();
         Lanes {
-            first: mix(self.first, word_at(block, 0)),
-            second: mix(self.second, word_at(block, 8)),
-            third: mix(self.third, word_at(block, 16)),
-            fourth: mix(self.fourth, word_at(block, 24)),
+            first: mix(self.first, Number::from_be(&words[0])),
+            second: mix(self.second, Number::from_be(&words[1])),
+            third: mix(self.third, Number::from_be(&words[2])),
+            fourth: mix(self.fourth, Number::from_be(&words[3])),
         }
     }
 
@@ -82,15 +70,13 @@ impl Lanes {
 pub(crate) fn sum(b: &[u8]) -> u64
     ensures { result ≡ sum_of b.now }
 {
-    let mut lanes = Lanes::start(b);
-    let rounds = b.len() / 32;
-    for k in 0..rounds {
-        let at = 32 * k;
-        lanes = lanes.mixed_with(&b[at..at + 32]);
+    let mut lanes = Lanes::new();
+    let (blocks, rest) = b.as_chunks::<32>();
+    for block in blocks {
+        lanes = lanes.mixed_with(block);
     }
-    let done = 32 * rounds;
-    if done < b.len() {
-        lanes = lanes.mixed_with(&padded(&b[done..]));
+    if !rest.is_empty() {
+        lanes = lanes.mixed_with(&padded(rest));
     }
     lanes.join()
 }

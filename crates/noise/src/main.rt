@@ -1,163 +1,131 @@
 // Flips two or three bits of real messages, chosen by chance from a fixed seed, and counts how many are still read as messages.
 #![tactic(auto)]
 
-use ids::*;
+ghost use Rattle.std.specs.Prelude.{◌<◌};
+
+use ids::{Grant, Nonce, RequestId, Seq, Session, SlotId};
 use messages::{Message, read_message, write_message};
-use std::alloc::{AllocError, Global};
 use std::io;
 
 const TRIALS: u32 = 1_000_000;
 
-fn next(x: u64) -> u64 {
-    let y = x ^ (x << 13);
-    let z = y ^ (y >> 7);
-    z ^ (z << 17)
+// Numbers by chance: a xorshift generator.
+#[derive(Clone, Copy)]
+struct Chance(u64);
+
+impl Chance {
+    fn next(&mut self) -> u64 {
+        self.0 ^= self.0 << 13;
+        self.0 ^= self.0 >> 7;
+        self.0 ^= self.0 << 17;
+        self.0
+    }
 }
 
-// One of n, by chance.
-fn pick(seed: u64, n: usize) -> usize {
-    if n == 0 { 0 } else { (seed >> 11) as usize % n }
+// One of n by a number of chance.
+fn pick(number: u64, n: usize) -> usize
+    requires { 0 < n }
+{
+    (number >> 11) as usize % n
+}
+
+// The first of n, from one on and around, that is neither a nor b.
+fn other(from: usize, a: usize, b: usize, n: usize) -> usize
+    requires { 0 < n }
+{
+    (0..3)
+        .map(|k| from.wrapping_add(k) % n)
+        .find(|bit| *bit != a && *bit != b)
+        .unwrap_or(from)
 }
 
 fn flip(bytes: &mut [u8], bit: usize) {
-    let at = bit / 8;
-    if at < bytes.len() {
-        bytes[at] = bytes[at] ^ (1 << (bit % 8));
+    if let Some(byte) = bytes.get_mut(bit / 8) {
+        *byte ^= 1 << (bit % 8);
     }
 }
 
-// Another than the first two of so many bits.
-fn third(c: usize, a: usize, b: usize, n: usize) -> usize {
-    if n == 0 {
-        return 0;
-    }
-    let d = if c == a || c == b {
-        c.wrapping_add(1) % n
-    } else {
-        c
-    };
-    if d == a || d == b {
-        d.wrapping_add(1) % n
-    } else {
-        d
-    }
-}
-
-fn damage(bytes: &mut [u8], seed: u64) {
+// The same chance once more takes the damage back.
+fn damage(bytes: &mut [u8], mut chance: Chance) {
     let n = bytes.len().wrapping_mul(8);
-    let s1 = next(seed);
-    let s2 = next(s1);
-    let s3 = next(s2);
-    let a = pick(s1, n);
-    let b = third(pick(s2, n), a, a, n);
+    if n == 0 {
+        return;
+    }
+    let a = pick(chance.next(), n);
+    let b = other(pick(chance.next(), n), a, a, n);
     flip(bytes, a);
     flip(bytes, b);
-    if s3 % 2 == 0 {
-        flip(bytes, third(pick(s3, n), a, b, n));
+    let last = chance.next();
+    if last % 2 == 0 {
+        flip(bytes, other(pick(last, n), a, b, n));
     }
 }
 
-fn made(heap: Global, m: Message<'_>) -> Result<Vec<u8>, AllocError> {
-    let mut v = Vec::with_capacity(heap, 4096)?;
-    let _ = write_message(&mut v, m);
-    Ok(v)
-}
-
-fn real(heap: Global, which: u32) -> Result<Vec<u8>, AllocError> {
-    let session = Session(7);
-    let slot = SlotId(3);
-    let seq = Seq(41);
-    let long = [b'x'; 300];
-    match which {
-        0 => made(
-            heap,
-            Message::Hello {
-                nonce: Nonce(0x0123_4567_89ab_cdef),
-            },
-        ),
-        1 => made(
-            heap,
-            Message::Welcome {
-                nonce: Nonce(0x0123_4567_89ab_cdef),
-                session,
-            },
-        ),
-        2 => made(heap, Message::Alive { session }),
-        3 => made(
-            heap,
-            Message::Request {
-                session,
-                slot,
-                seq,
-                call: b"\x08\x05lamps",
-            },
-        ),
-        4 => made(
-            heap,
-            Message::Request {
-                session,
-                slot,
-                seq,
-                call: &long,
-            },
-        ),
-        5 => made(
-            heap,
-            Message::Response {
-                session,
-                slot,
-                seq,
-                grant: Grant(0),
-                answer: b"\x01",
-            },
-        ),
-        6 => made(
-            heap,
-            Message::Response {
-                session,
-                slot,
-                seq,
-                grant: Grant(0),
-                answer: b"\x02\x00\x00\x00\x00\x00\x00\x00\x09",
-            },
-        ),
-        _ => made(
-            heap,
-            Message::Response {
-                session,
-                slot,
-                seq,
-                grant: Grant(0),
-                answer: &long,
-            },
-        ),
-    }
+fn passes_damaged(message: &mut [u8], chance: Chance) -> bool {
+    damage(message, chance);
+    let passes = read_message(message).is_some();
+    damage(message, chance);
+    passes
 }
 
 // How many of so many damaged copies are still read as messages.
-fn passed(message: &[u8], copy: &mut Vec<u8>, trials: u32, start: u64) -> Result<u32, AllocError> {
-    let mut seed = start;
-    let mut count = 0u32;
-    for _ in 0..trials {
-        copy.clear();
-        copy.extend_from_slice(message)?;
-        seed = next(seed);
-        damage(copy.as_mut_slice(), seed);
-        if read_message(copy.as_slice()).is_some() {
-            count = count.saturating_add(1);
-        }
-    }
-    Ok(count)
+fn passed(message: &mut [u8], trials: u32, mut chance: Chance) -> usize {
+    (0..trials)
+        .filter(|_| {
+            chance.next();
+            passes_damaged(message, chance)
+        })
+        .count()
+}
+
+fn messages<'a>(long: &'a [u8]) -> [Message<'a>; 8] {
+    let nonce = Nonce(0x0123_4567_89ab_cdef);
+    let session = Session(7);
+    let request = RequestId {
+        session,
+        slot: SlotId(3),
+        seq: Seq(41),
+    };
+    let grant = Grant(0);
+    [
+        Message::Hello { nonce },
+        Message::Welcome { nonce, session },
+        Message::Alive { session },
+        Message::Request {
+            request,
+            call: b"\x08\x05lamps",
+        },
+        Message::Request {
+            request,
+            call: long,
+        },
+        Message::Response {
+            request,
+            grant,
+            answer: b"\x01",
+        },
+        Message::Response {
+            request,
+            grant,
+            answer: b"\x02\x00\x00\x00\x00\x00\x00\x00\x09",
+        },
+        Message::Response {
+            request,
+            grant,
+            answer: long,
+        },
+    ]
 }
 
 fn main(rt: HostRuntime) -> io::Result<()> {
-    let heap = rt.alloc();
-    let mut copy = Vec::new(heap);
-    let mut count = 0u32;
-    for which in 0..8u32 {
-        let message = real(heap, which)?;
-        let start = 0x9E37_79B9_7F4A_7C15u64.wrapping_add(u64::from(which));
-        count = count.saturating_add(passed(message.as_slice(), &mut copy, TRIALS / 8, start)?);
+    let mut bytes = Vec::with_capacity(rt.alloc(), 4096)?;
+    let mut count = 0usize;
+    let mut start = 0x9E37_79B9_7F4A_7C15u64;
+    for message in messages(&[b'x'; 300]) {
+        bytes.clear();
+        let _ = write_message(&mut bytes, message);
+        count = count.saturating_add(passed(bytes.as_mut_slice(), TRIALS / 8, Chance(start)));
+        start = start.wrapping_add(1);
     }
     println!(rt; "{TRIALS} damaged messages, {count} passed")
 }

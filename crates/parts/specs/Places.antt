@@ -1,19 +1,14 @@
--- Strings of bytes that lie in equal parts of memory.
+-- Strings of bytes, each in its part of memory.
 -- Assumes nothing.
-use Rattle.std.specs.Prelude.{ℕ, ◌+◌, ◌<◌, ◌≤◌, Bool, cond, List, [], ◌∷◌, ◌++◌, length, take, drop, nat_le, slice_index}
+use Rattle.std.specs.Prelude.{ℕ, ◌≤◌, Bool, cond, List, [], ◌++◌, length, take, drop, nat_le, vec_len, vec_capacity}
+use Rattle.std.specs.declared.vec.Vec.{Vec}
 use Rattle.codec.specs.Messages.{encode_msg, Request}
 
--- each string has its head, and is no longer than a part
-abbrev pub Within : (head size : ℕ) → (lens : List ℕ) → Type 0
-Within head size lens = (k : ℕ) → k < length lens → (head ≤ slice_index lens k) × (slice_index lens k ≤ size)
-
--- the strings that lie in parts from a place on, by their lengths
-unfoldable pub parts_from : (mem : List ℕ) (size at : ℕ) → (lens : List ℕ) → List (List ℕ)
-parts_from mem size at [] = []
-parts_from mem size at (n ∷ ns) = take n (drop at mem) ∷ parts_from mem size (at + size) ns
-
-unfoldable pub parts_of : (mem : List ℕ) (size : ℕ) → (lens : List ℕ) → List (List ℕ)
-parts_of mem size lens = parts_from mem size 0 lens
+-- a string that has its head, and is no longer than its part of the memory
+pub record HasPart {Z : Type 0} (head size : ℕ) (string : Vec ℕ Z) : Type 0 where
+  pub headed : head ≤ vec_len string
+  pub short : vec_len string ≤ size
+  pub reserved : size ≤ vec_capacity string
 
 -- a string with another body
 abbrev pub bodied : (head : ℕ) → (part body : List ℕ) → List ℕ

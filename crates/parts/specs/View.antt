@@ -1,13 +1,12 @@
 -- Parts as a list of strings of bytes.
 -- Assumes nothing.
-use Rattle.std.specs.Prelude.{◌≡◌, ℕ, ◌/◌, ◌<◌, ◌≤◌, List, replicate, Ok, Err, vec_items, Result}
+use Rattle.std.specs.Prelude.{◌≡◌, ℕ, ◌/◌, ◌<◌, ◌≤◌, List, map, replicate, Ok, Err, vec_items, Result}
 use Rattle.parts.specs.declared.lent.PartsError.{PartsError}
 use Rattle.parts.specs.declared.lent.PartsError.TheVariants.{TooSmall, NoMemory}
 use Rattle.parts.specs.declared.lent.Parts.{Parts}
-use Rattle.parts.specs.Places.{parts_of}
 
 abbrev pub parts_in : Parts → List (List ℕ)
-parts_in p = parts_of (vec_items p.mem) p.size (vec_items p.lens)
+parts_in p = map vec_items (vec_items p.strings)
 
 -- how long the head of each is
 abbrev pub head_of : Parts → ℕ

@@ -5,8 +5,5 @@ use Rattle.messages.proofs.Cut.{cut, lengthened}
 use Rattle.messages.proofs.Changed.{changed}
 use Rattle.messages.proofs.reader.read_message.Goals as goal
 
-pub returns-in_default : goal.returns-in_default
-returns-in_default c = record { value = search rules; back = reads_back; form = messages_form; cut = cut; lengthened = lengthened; changed = changed }
-
 pub returns : goal.returns
 returns c = record { value = search rules; back = reads_back; form = messages_form; cut = cut; lengthened = lengthened; changed = changed }

@@ -1,7 +1,0 @@
-use Rattle.messages.proofs.Laid.{response_laid}
-use Rattle.messages.proofs.put.put_response.Goals as goal
-
-pub returns : goal.returns
-returns c =
-    response_laid c.args.part.now c.put_u64.new.part c.put_u64-2.new.part c.put_u8.new.part c.put_u64-3.new.part c.put_front.new.part _ _ _ _
-    c.put_u64.ensures.after c.put_u64-2.ensures.after c.put_u8.ensures.after c.put_u64-3.ensures.after c.put_front.ensures
