@@ -49,24 +49,22 @@ patch_in_lem : (room d at : ℕ) (n : Name) (bs : List ℕ) (e : Expect) (s : St
 unfolding does
 patch_in_lem room d at n bs e s h = sym (ap (λ (b : Bool). cond b (patches room d n at bs e (find (is_sheet n) s.sheets) s) (no out_of_range s)) h)
 
-pub patch_none : (room d at : ℕ) (n : Name) (bs : List ℕ) (e : Expect) (s : State) (x : Sheet) (b : Bool) → (name_ok n && bytes_ok bs) ≡ true → b ≡ false → find (is_sheet n) s.sheets ≡ cond b (x ∷ []) [] → no missing s ≡ does room d (Patch n at bs e) s
+pub patch_none : (room d at : ℕ) (n : Name) (bs : List ℕ) (e : Expect) (s : State) → (name_ok n && bytes_ok bs) ≡ true → find (is_sheet n) s.sheets ≡ [] → no missing s ≡ does room d (Patch n at bs e) s
 unfolding patches
-patch_none room d at n bs e s x b h f q =
-    sym (ap (λ (l : List Sheet). patches room d n at bs e l s) (q ∙ ap (λ (v : Bool). cond v (x ∷ []) []) f)) ∙ patch_in_lem room d at n bs e s h
+patch_none room d at n bs e s h q = sym (ap (λ (l : List Sheet). patches room d n at bs e l s) q) ∙ patch_in_lem room d at n bs e s h
 
-patch_by : (room d at : ℕ) (n : Name) (bs : List ℕ) (e : Expect) (s : State) (x : Sheet) (b : Bool) → (name_ok n && bytes_ok bs) ≡ true → b ≡ true → find (is_sheet n) s.sheets ≡ cond b (x ∷ []) [] →
+patch_by : (room d at : ℕ) (n : Name) (bs : List ℕ) (e : Expect) (s : State) (x : Sheet) → (name_ok n && bytes_ok bs) ≡ true → find (is_sheet n) s.sheets ≡ x ∷ [] →
     cond (ltb (length x.bytes) at || ltb 1048576 (at + length bs)) (no out_of_range s) (changes room d n e (patched at bs x.bytes) s) ≡ does room d (Patch n at bs e) s
 unfolding patches
-patch_by room d at n bs e s x b h f q =
-    sym (ap (λ (l : List Sheet). patches room d n at bs e l s) (q ∙ ap (λ (v : Bool). cond v (x ∷ []) []) f)) ∙ patch_in_lem room d at n bs e s h
+patch_by room d at n bs e s x h q = sym (ap (λ (l : List Sheet). patches room d n at bs e l s) q) ∙ patch_in_lem room d at n bs e s h
 
-pub patch_past : (room d at : ℕ) (n : Name) (bs : List ℕ) (e : Expect) (s : State) (x : Sheet) (b : Bool) → (name_ok n && bytes_ok bs) ≡ true → b ≡ true → find (is_sheet n) s.sheets ≡ cond b (x ∷ []) [] → (ltb (length x.bytes) at || ltb 1048576 (at + length bs)) ≡ true → no out_of_range s ≡ does room d (Patch n at bs e) s
-patch_past room d at n bs e s x b h f q r = sym (ap (λ (v : Bool). cond v (no out_of_range s) (changes room d n e (patched at bs x.bytes) s)) r) ∙ patch_by room d at n bs e s x b h f q
+pub patch_past : (room d at : ℕ) (n : Name) (bs : List ℕ) (e : Expect) (s : State) (x : Sheet) → (name_ok n && bytes_ok bs) ≡ true → find (is_sheet n) s.sheets ≡ x ∷ [] → (ltb (length x.bytes) at || ltb 1048576 (at + length bs)) ≡ true → no out_of_range s ≡ does room d (Patch n at bs e) s
+patch_past room d at n bs e s x h q r = sym (ap (λ (v : Bool). cond v (no out_of_range s) (changes room d n e (patched at bs x.bytes) s)) r) ∙ patch_by room d at n bs e s x h q
 
-pub patch_on : (room d at : ℕ) (n : Name) (bs : List ℕ) (e : Expect) (s : State) (x : Sheet) (b : Bool) → (name_ok n && bytes_ok bs) ≡ true → b ≡ true → find (is_sheet n) s.sheets ≡ cond b (x ∷ []) [] → at ≤ length x.bytes → at + length bs ≤ 1048576 → changes room d n e (patched at bs x.bytes) s ≡ does room d (Patch n at bs e) s
-patch_on room d at n bs e s x b h f q r t =
+pub patch_on : (room d at : ℕ) (n : Name) (bs : List ℕ) (e : Expect) (s : State) (x : Sheet) → (name_ok n && bytes_ok bs) ≡ true → find (is_sheet n) s.sheets ≡ x ∷ [] → at ≤ length x.bytes → at + length bs ≤ 1048576 → changes room d n e (patched at bs x.bytes) s ≡ does room d (Patch n at bs e) s
+patch_on room d at n bs e s x h q r t =
     let z : (ltb (length x.bytes) at || ltb 1048576 (at + length bs)) ≡ false = grind (arith, nat_tests) in
-    sym (ap (λ (v : Bool). cond v (no out_of_range s) (changes room d n e (patched at bs x.bytes) s)) z) ∙ patch_by room d at n bs e s x b h f q
+    sym (ap (λ (v : Bool). cond v (no out_of_range s) (changes room d n e (patched at bs x.bytes) s)) z) ∙ patch_by room d at n bs e s x h q
 
 pub remove_out : (room d : ℕ) (n : Name) (e : Expect) (s : State) → name_ok n ≡ false → no out_of_range s ≡ does room d (Remove n e) s
 unfolding does
@@ -76,24 +74,23 @@ remove_in_lem : (room d : ℕ) (n : Name) (e : Expect) (s : State) → name_ok n
 unfolding does
 remove_in_lem room d n e s h = sym (ap (λ (b : Bool). cond b (removes d n e (find (is_sheet n) s.sheets) s) (no out_of_range s)) h)
 
-pub remove_none : (room d : ℕ) (n : Name) (e : Expect) (s : State) (x : Sheet) (b : Bool) → name_ok n ≡ true → b ≡ false → find (is_sheet n) s.sheets ≡ cond b (x ∷ []) [] → no missing s ≡ does room d (Remove n e) s
+pub remove_none : (room d : ℕ) (n : Name) (e : Expect) (s : State) → name_ok n ≡ true → find (is_sheet n) s.sheets ≡ [] → no missing s ≡ does room d (Remove n e) s
 unfolding removes
-remove_none room d n e s x b h f q =
-    sym (ap (λ (l : List Sheet). removes d n e l s) (q ∙ ap (λ (v : Bool). cond v (x ∷ []) []) f)) ∙ remove_in_lem room d n e s h
+remove_none room d n e s h q = sym (ap (λ (l : List Sheet). removes d n e l s) q) ∙ remove_in_lem room d n e s h
 
-remove_by : (room d : ℕ) (n : Name) (e : Expect) (xs : List Sheet) (k : ℕ) (x : Sheet) (b a : Bool) → name_ok n ≡ true → b ≡ true → find (is_sheet n) xs ≡ cond b (x ∷ []) [] → as_expected e x.edition ≡ a →
+remove_by : (room d : ℕ) (n : Name) (e : Expect) (xs : List Sheet) (k : ℕ) (x : Sheet) (a : Bool) → name_ok n ≡ true → find (is_sheet n) xs ≡ x ∷ [] → as_expected e x.edition ≡ a →
     cond (not a) (no other_edition (plain xs k)) (record { reply = Yes; state = plain (without n xs) k }) ≡ does room d (Remove n e) (plain xs k)
 unfolding removes keep none
-remove_by room d n e xs k x b a h f q t =
+remove_by room d n e xs k x a h q t =
     sym (ap (λ (v : Bool). cond (not v) (no other_edition (plain xs k)) (record { reply = Yes; state = plain (without n xs) k })) t)
-    ∙ sym (ap (λ (l : List Sheet). removes d n e l (plain xs k)) (q ∙ ap (λ (v : Bool). cond v (x ∷ []) []) f)) ∙ remove_in_lem room d n e (plain xs k) h
+    ∙ sym (ap (λ (l : List Sheet). removes d n e l (plain xs k)) q) ∙ remove_in_lem room d n e (plain xs k) h
 
-pub remove_not : (room d : ℕ) (n : Name) (e : Expect) (xs : List Sheet) (k : ℕ) (x : Sheet) (b : Bool) → name_ok n ≡ true → b ≡ true → find (is_sheet n) xs ≡ cond b (x ∷ []) [] → as_expected e x.edition ≡ false → no other_edition (plain xs k) ≡ does room d (Remove n e) (plain xs k)
-remove_not room d n e xs k x b h f q t = remove_by room d n e xs k x b false h f q t
+pub remove_not : (room d : ℕ) (n : Name) (e : Expect) (xs : List Sheet) (k : ℕ) (x : Sheet) → name_ok n ≡ true → find (is_sheet n) xs ≡ x ∷ [] → as_expected e x.edition ≡ false → no other_edition (plain xs k) ≡ does room d (Remove n e) (plain xs k)
+remove_not room d n e xs k x h q t = remove_by room d n e xs k x false h q t
 
-pub remove_yes : (room d : ℕ) (n : Name) (e : Expect) (xs : List Sheet) (k i : ℕ) (x : Sheet) (b : Bool) (s : State) → name_ok n ≡ true → b ≡ true → find (is_sheet n) xs ≡ cond b (x ∷ []) [] → as_expected e x.edition ≡ true → without n xs ≡ remove xs i → s ≡ plain (remove xs i) k → record { reply = Yes; state = s } ≡ does room d (Remove n e) (plain xs k)
-remove_yes room d n e xs k i x b s h f q t w z =
-    ap (λ (v : State). record { reply = Yes; state = v }) (z ∙ ap (λ (l : List Sheet). plain l k) (sym w)) ∙ remove_by room d n e xs k x b true h f q t
+pub remove_yes : (room d : ℕ) (n : Name) (e : Expect) (xs : List Sheet) (k i : ℕ) (x : Sheet) (s : State) → name_ok n ≡ true → find (is_sheet n) xs ≡ x ∷ [] → as_expected e x.edition ≡ true → without n xs ≡ remove xs i → s ≡ plain (remove xs i) k → record { reply = Yes; state = s } ≡ does room d (Remove n e) (plain xs k)
+remove_yes room d n e xs k i x s h q t w z =
+    ap (λ (v : State). record { reply = Yes; state = v }) (z ∙ ap (λ (l : List Sheet). plain l k) (sym w)) ∙ remove_by room d n e xs k x true h q t
 
 -- a place beyond the end, or a sheet that would be too long
 pub beyond : (len at n : ℕ) → (len < at) ⊎ ((at ≤ len) × (1048576 < at + n)) → (ltb len at || ltb 1048576 (at + n)) ≡ true

@@ -1,10 +1,10 @@
 -- Heads that lie within the log, and the sheets at their indices.
-use Rattle.std.proofs.Common.{◌≡◌, ℕ, ◌+◌, ◌-◌, ◌<◌, ◌≤◌, true, false, List, [], ◌∷◌, length, get_or, take, drop, sym, refl, ap, ◌∙◌, arith}
+use Rattle.std.proofs.Common.{◌≡◌, ℕ, ◌+◌, ◌<◌, ◌≤◌, true, false, List, [], ◌∷◌, length, get_or, refl, arith}
 use Rattle.std.proofs.lemmas.Bool.Decides.{nat_tests}
 use Rattle.std.proofs.lemmas.Bool.{and_parts, and_from}
 use Rattle.std.proofs.lemmas.List.{get_or-map, length-map}
 use Rattle.promise.specs.Bytes.{every}
-use Rattle.promise.specs.Sheets.{Sheet, Name, less}
+use Rattle.promise.specs.Sheets.{Name, less}
 use Rattle.table.specs.declared.heads.Head.{Head}
 use Rattle.table.specs.View.{below, rising, rank, sheet_of, sheets_of, sheet_at, blank_head, blank_sheet}
 use Rattle.table.proofs.Ranks.{every_at, rank_le, rank_below, rank_above}
@@ -54,14 +54,3 @@ place_below m hs n k h e = rank_below n (sheets_of m hs) k blank_sheet (rw lengt
 
 pub place_above : (m : List ℕ) (hs : List Head) (n : Name) (k : ℕ) → rising (sheets_of m hs) ≡ true → k < length hs → less (sheet_at m hs k).name n ≡ true → k < rank n (sheets_of m hs)
 place_above m hs n k r h e = rank_above n (sheets_of m hs) k blank_sheet r (rw length-map h) e
-
--- the parts that a slice of the log names
-pub name_part : (m : List ℕ) (hs : List Head) (k : ℕ) → k < length hs → take ((get_or hs k blank_head).at + (get_or hs k blank_head).width - (get_or hs k blank_head).at) (drop (get_or hs k blank_head).at m) ≡ (sheet_at m hs k).name
-name_part m hs k h =
-    let e : (get_or hs k blank_head).at + (get_or hs k blank_head).width - (get_or hs k blank_head).at ≡ (get_or hs k blank_head).width = omega arith in
-    ap (λ (n : ℕ). take n (drop (get_or hs k blank_head).at m)) e ∙ sym (ap (λ (x : Sheet). x.name) (sheet_at_lem m hs k h))
-
-pub bytes_part : (m : List ℕ) (hs : List Head) (k : ℕ) → k < length hs → take ((get_or hs k blank_head).at + (get_or hs k blank_head).width + (get_or hs k blank_head).len - ((get_or hs k blank_head).at + (get_or hs k blank_head).width)) (drop ((get_or hs k blank_head).at + (get_or hs k blank_head).width) m) ≡ (sheet_at m hs k).bytes
-bytes_part m hs k h =
-    let e : (get_or hs k blank_head).at + (get_or hs k blank_head).width + (get_or hs k blank_head).len - ((get_or hs k blank_head).at + (get_or hs k blank_head).width) ≡ (get_or hs k blank_head).len = omega arith in
-    ap (λ (n : ℕ). take n (drop ((get_or hs k blank_head).at + (get_or hs k blank_head).width) m)) e ∙ sym (ap (λ (x : Sheet). x.bytes) (sheet_at_lem m hs k h))

@@ -1,89 +1,82 @@
 -- Heads and log changed together: the sheets that they stand for then, and what stays true.
-use Rattle.std.proofs.Common.{◌≡◌, ℕ, zero, suc, ◌+◌, ◌<◌, ◌≤◌, max, Bool, true, false, cond, ◌&&◌, ◌⊎◌, List, [], ◌∷◌, ◌++◌, map, length, get_or, take, drop, set, sym, refl, ap, ◌∙◌, subst, inl, inr, ⊎_elim, arith, rules}
-use Rattle.std.specs.List.{insert, remove}
+use Rattle.std.proofs.Common.{◌≡◌, ℕ, zero, suc, ◌+◌, ◌<◌, ◌≤◌, max, Bool, true, ◌&&◌, List, [], ◌∷◌, ◌++◌, Result, Ok, Err, map, length, get_or, take, drop, set, sym, refl, ap, ◌∙◌, subst, ⊎_elim, add-zero, arith, rules}
+use Rattle.std.specs.List.{remove, slice_range}
 use lib.Seq.{paste}
-use Rattle.std.proofs.lemmas.List.{places, same_lists, map-set, map-append, take-map, drop-map, length-map, length-set, get_or-map, get_or-set_same, get_or-set_other, length-append, length-drop}
+use Rattle.std.proofs.lemmas.List.{places, same_lists, map-set, map-append, take-map, drop-map, length-map, length-set, get_or-map, get_or-set_same, get_or-set_other}
 use Rattle.std.proofs.lemmas.Bool.{and_parts, cases_eq}
 use Rattle.promise.specs.Bytes.{every}
-use Rattle.promise.specs.Sheets.{Sheet, Name, less, weight, patched}
+use Rattle.promise.specs.Sheets.{Sheet, Name, less, patched}
 use Rattle.table.specs.declared.heads.Head.{Head}
 use Rattle.table.specs.View.{cut, sheet_of, sheets_of, below, apart, clear, rising, blank_head, blank_sheet, laid, filled_sheet}
 use Rattle.table.proofs.Ranks.{every_at}
 use Rattle.table.proofs.Fits.{Lies, lies, lies_at, below_from, below_more, sheet_at_lem}
 use Rattle.table.proofs.Parts.{first_take, drop_drops}
-use Rattle.table.proofs.Pastes.{paste_in, paste_below, sheet_below, sheet_above}
+use Rattle.table.proofs.Pastes.{cut_behind, cut_copied, sheet_front, paste_below, sheet_below, sheet_above}
 use Rattle.table.proofs.Apart.{every_set, every_inserted, clear_cases, apart_at, apart_set, apart_inserted, clear_behind}
-use Rattle.table.proofs.Packs.{moved_to, moved_same}
 
--- sheets below what was written are as they were
-pub kept_below : (m s : List ℕ) (at k : ℕ) (hs : List Head) → at + k ≤ length m → k ≤ length s → every (below at) hs ≡ true → sheets_of (paste m at s k) hs ≡ sheets_of m hs
+-- sheets are as they were where bytes are written behind them
+pub kept_front : (m s : List ℕ) (hs : List Head) → every (below (length m)) hs ≡ true → sheets_of (m ++ s) hs ≡ sheets_of m hs
 unfolding every
-kept_below m s at k [] f g b = refl
-kept_below m s at k (h ∷ hs) f g b =
-    let p = and_parts (below at h) (every (below at) hs) b in
-    let l = lies at h p.0 in
-    let x = sheet_below m s at k h f g l.filled l.piece in
-    let y = kept_below m s at k hs f g p.1 in
+kept_front m s [] b = refl
+kept_front m s (h ∷ hs) b =
+    let p = and_parts (below (length m) h) (every (below (length m)) hs) b in
+    let l = lies (length m) h p.0 in
+    let x = sheet_front m s h (omega (arith, l.piece, l.filled)) in
+    let y = kept_front m s hs p.1 in
     cc
 
 abbrev pub new_head : ℕ → Name → List ℕ → ℕ → Head
 new_head u n bs e = record { at = u; width = length n; len = length bs; size = length bs; edition = record { 0 = e } }
 
 -- a piece that was written stands for its sheet
-pub new_sheet_lem : (m n bs : List ℕ) (u e : ℕ) → u + length n + length bs ≤ length m → sheet_of (paste m u (n ++ bs) (length n + length bs)) (new_head u n bs e) ≡ record { name = n; bytes = bs; edition = e }
-new_sheet_lem m n bs u e l =
-    let z : u + 0 ≡ u = omega arith in
-    let g : length n + length bs ≤ length (n ++ bs) = (let q = length-append n bs in omega arith) in
+pub new_sheet_lem : (m n bs : List ℕ) (e : ℕ) → sheet_of (m ++ (n ++ bs)) (new_head (length m) n bs e) ≡ record { name = n; bytes = bs; edition = e }
+new_sheet_lem m n bs e =
     let a : cut 0 (length n) (n ++ bs) ≡ n = same_lists _ _ (search (rules, places)) (λ k d h. grind (arith, places)) in
     let b : cut (length n) (length bs) (n ++ bs) ≡ bs = same_lists _ _ (search (rules, places)) (λ k d h. grind (arith, places)) in
-    let x : cut u (length n) (paste m u (n ++ bs) (length n + length bs)) ≡ n = ap (λ (q : ℕ). cut q (length n) (paste m u (n ++ bs) (length n + length bs))) (sym z) ∙ paste_in m (n ++ bs) u (length n + length bs) 0 (length n) (omega arith) g (omega arith) ∙ a in
-    let y : cut (u + length n) (length bs) (paste m u (n ++ bs) (length n + length bs)) ≡ bs = paste_in m (n ++ bs) u (length n + length bs) (length n) (length bs) (omega arith) g (omega arith) ∙ b in
+    let x : cut (length m) (length n) (m ++ (n ++ bs)) ≡ n = ap (λ (q : ℕ). cut q (length n) (m ++ (n ++ bs))) (sym (add-zero (length m))) ∙ cut_behind m (n ++ bs) 0 (length n) ∙ a in
+    let y : cut (length m + length n) (length bs) (m ++ (n ++ bs)) ≡ bs = cut_behind m (n ++ bs) (length n) (length bs) ∙ b in
     rw (x, y)
 
--- heads changed at a place
-abbrev pub laid_heads : List Head → ℕ → Bool → Head → List Head
-laid_heads hs i b h = cond b (set hs i h) (insert hs i h)
+laid_sheets : (m : List ℕ) (hs : List Head) (p : Result ℕ ℕ) (h : Head) → sheets_of m (laid hs p h) ≡ laid (sheets_of m hs) p (sheet_of m h)
+laid_sheets m hs (Ok i) h = map-set (sheet_of m) hs i h
+laid_sheets m hs (Err i) h = rw (map-append, ← (take-map (sheet_of m) i hs), ← (drop-map (sheet_of m) i hs))
 
-laid_sheets : (m : List ℕ) (hs : List Head) (i : ℕ) (b : Bool) (h : Head) → sheets_of m (laid_heads hs i b h) ≡ laid (sheets_of m hs) i b (sheet_of m h)
-laid_sheets m hs i true h = map-set (sheet_of m) hs i h
-laid_sheets m hs i false h = rw (map-append, ← (take-map (sheet_of m) i hs), ← (drop-map (sheet_of m) i hs))
+pub appended : (m m' n bs : List ℕ) (hs hs' : List Head) (u e : ℕ) (p : Result ℕ ℕ) → u ≡ length m → every (below u) hs ≡ true → m' ≡ m ++ (n ++ bs) → hs' ≡ laid hs p (new_head u n bs e) → sheets_of m' hs' ≡ laid (sheets_of m hs) p (record { name = n; bytes = bs; edition = e })
+appended m m' n bs hs hs' u e p l f em eh =
+    let k = kept_front m (n ++ bs) hs (subst (λ (q : ℕ). every (below q) hs ≡ true) l f) in
+    let s : sheet_of (m ++ (n ++ bs)) (new_head u n bs e) ≡ record { name = n; bytes = bs; edition = e } = ap (λ (q : ℕ). sheet_of (m ++ (n ++ bs)) (new_head q n bs e)) l ∙ new_sheet_lem m n bs e in
+    ap (λ (q : List ℕ). sheets_of q hs') em ∙ ap (sheets_of (m ++ (n ++ bs))) eh ∙ laid_sheets (m ++ (n ++ bs)) hs p (new_head u n bs e)
+    ∙ ap (λ (q : List Sheet). laid q p (sheet_of (m ++ (n ++ bs)) (new_head u n bs e))) k ∙ ap (λ (q : Sheet). laid (sheets_of m hs) p q) s
 
-pub appended : (m m' n bs : List ℕ) (hs hs' : List Head) (u i e : ℕ) (b : Bool) → u + length n + length bs ≤ length m → every (below u) hs ≡ true → m' ≡ paste m u (n ++ bs) (length n + length bs) → hs' ≡ laid_heads hs i b (new_head u n bs e) → sheets_of m' hs' ≡ laid (sheets_of m hs) i b (record { name = n; bytes = bs; edition = e })
-appended m m' n bs hs hs' u i e b l f em eh =
-    let g : length n + length bs ≤ length (n ++ bs) = (let q = length-append n bs in omega arith) in
-    let k = kept_below m (n ++ bs) u (length n + length bs) hs (omega arith) g f in
-    let s = new_sheet_lem m n bs u e l in
-    ap (λ (q : List ℕ). sheets_of q hs') em ∙ ap (sheets_of (paste m u (n ++ bs) (length n + length bs))) eh ∙ laid_sheets (paste m u (n ++ bs) (length n + length bs)) hs i b (new_head u n bs e)
-    ∙ ap (λ (q : List Sheet). laid q i b (sheet_of (paste m u (n ++ bs) (length n + length bs)) (new_head u n bs e))) k ∙ ap (λ (q : Sheet). laid (sheets_of m hs) i b q) s
+pub laid_inside : (hs : List Head) (u v : ℕ) (p : Result ℕ ℕ) (h : Head) → u ≤ v → every (below u) hs ≡ true → below v h ≡ true → every (below v) (laid hs p h) ≡ true
+laid_inside hs u v (Ok i) h l f g = every_set (below v) hs i h (below_more u v hs l f) g
+laid_inside hs u v (Err i) h l f g = every_inserted (below v) hs i h (below_more u v hs l f) g
 
-pub laid_inside : (hs hs' : List Head) (u v i : ℕ) (b : Bool) (h : Head) → u ≤ v → every (below u) hs ≡ true → below v h ≡ true → hs' ≡ laid_heads hs i b h → every (below v) hs' ≡ true
-laid_inside hs hs' u v i b h l f g e = subst (λ (q : List Head). every (below v) q ≡ true) (sym e) (by b) where
-  by : (b : Bool) → every (below v) (laid_heads hs i b h) ≡ true
-  by true = every_set (below v) hs i h (below_more u v hs l f) g
-  by false = every_inserted (below v) hs i h (below_more u v hs l f) g
-
-pub laid_apart : (hs hs' : List Head) (u i : ℕ) (b : Bool) (h : Head) → u ≤ h.at → every (below u) hs ≡ true → apart hs ≡ true → hs' ≡ laid_heads hs i b h → apart hs' ≡ true
-laid_apart hs hs' u i b h l f a e = subst (λ (q : List Head). apart q ≡ true) (sym e) (by b) where
-  by : (b : Bool) → apart (laid_heads hs i b h) ≡ true
-  by true = apart_set hs i h a (λ j jl ne. every_at (clear h) hs j blank_head (clear_behind u hs h f l) jl)
-  by false = apart_inserted hs i h a (clear_behind u hs h f l)
+pub laid_apart : (hs : List Head) (u : ℕ) (p : Result ℕ ℕ) (h : Head) → u ≤ h.at → every (below u) hs ≡ true → apart hs ≡ true → apart (laid hs p h) ≡ true
+laid_apart hs u (Ok i) h l f a = apart_set hs i h a (λ j jl ne. every_at (clear h) hs j blank_head (clear_behind u hs h f l) jl)
+laid_apart hs u (Err i) h l f a = apart_inserted hs i h a (clear_behind u hs h f l)
 
 pub new_below : (u : ℕ) (n bs : List ℕ) (e : ℕ) → 1 ≤ length n → length n ≤ 255 → length bs ≤ 1048576 → below (u + length n + length bs) (new_head u n bs e) ≡ true
 new_below u n bs e a b c = below_from (u + length n + length bs) (new_head u n bs e) (record { piece = omega arith; filled = omega arith; named = a; narrow = b; short = c })
 
--- moved to the end
+-- a piece copied behind all others stands for the same sheet
+copied : (m z : List ℕ) (size : ℕ) (h : Head) → h.at + (h.width + h.len) ≤ length m → sheet_of (m ++ (slice_range m h.at (h.at + (h.width + h.len)) ++ z)) (record { at = length m; width = h.width; len = h.len; size = size; edition = h.edition }) ≡ sheet_of m h
+copied m z size h l =
+    let s : List ℕ = slice_range m h.at (h.at + (h.width + h.len)) ++ z in
+    let x : cut (length m) h.width (m ++ s) ≡ cut h.at h.width m = ap (λ (q : ℕ). cut q h.width (m ++ s)) (sym (add-zero (length m))) ∙ cut_behind m s 0 h.width ∙ cut_copied m z h.at (h.width + h.len) 0 h.width l (omega arith) ∙ ap (λ (q : ℕ). cut q h.width m) (add-zero h.at) in
+    let y : cut (length m + h.width) h.len (m ++ s) ≡ cut (h.at + h.width) h.len m = cut_behind m s h.width h.len ∙ cut_copied m z h.at (h.width + h.len) h.width h.len l (omega arith) in
+    rw (x, y)
 
-pub moved_sheets : (m m' : List ℕ) (hs : List Head) (u i size : ℕ) (h : Head) → i < length hs → h ≡ get_or hs i blank_head → u ≤ length m → Lies u h → u + (h.width + h.len) ≤ length m → every (below u) hs ≡ true → m' ≡ paste m u (drop h.at m) (h.width + h.len) →
+pub moved_sheets : (m m' z : List ℕ) (hs : List Head) (u i size : ℕ) (h : Head) → i < length hs → h ≡ get_or hs i blank_head → u ≡ length m → Lies u h → every (below u) hs ≡ true → m' ≡ m ++ (slice_range m h.at (h.at + (h.width + h.len)) ++ z) →
     sheets_of m' (set hs i (record { at = u; width = h.width; len = h.len; size = size; edition = h.edition })) ≡ sheets_of m hs
-moved_sheets m m' hs u i size h il eh ul l f b em =
-    let d = length-drop h.at m in
-    let g : h.width + h.len ≤ length (drop h.at m) = omega (arith, l.piece, l.filled) in
-    let k = kept_below m (drop h.at m) u (h.width + h.len) hs f g b in
-    let s : sheet_of (paste m u (drop h.at m) (h.width + h.len)) (moved_to u h) ≡ get_or (sheets_of m hs) i blank_sheet = moved_same m u h (omega (arith, l.piece, l.filled)) f ∙ ap (sheet_of m) eh ∙ sym (sheet_at_lem m hs i il) in
+moved_sheets m m' z hs u i size h il eh ul l b em =
+    let new : List ℕ = m ++ (slice_range m h.at (h.at + (h.width + h.len)) ++ z) in
+    let h' : Head = record { at = u; width = h.width; len = h.len; size = size; edition = h.edition } in
+    let k : sheets_of new hs ≡ sheets_of m hs = kept_front m (slice_range m h.at (h.at + (h.width + h.len)) ++ z) hs (subst (λ (q : ℕ). every (below q) hs ≡ true) ul b) in
+    let s : sheet_of new h' ≡ get_or (sheets_of m hs) i blank_sheet = ap (λ (q : ℕ). sheet_of new (record { at = q; width = h.width; len = h.len; size = size; edition = h.edition })) ul ∙ copied m z size h (omega (arith, l.piece, l.filled)) ∙ ap (sheet_of m) eh ∙ sym (sheet_at_lem m hs i il) in
     let e : set (sheets_of m hs) i (get_or (sheets_of m hs) i blank_sheet) ≡ sheets_of m hs = same_set (sheets_of m hs) i in
-    ap (λ (q : List ℕ). sheets_of q (set hs i (record { at = u; width = h.width; len = h.len; size = size; edition = h.edition }))) em
-    ∙ map-set (sheet_of (paste m u (drop h.at m) (h.width + h.len))) hs i (record { at = u; width = h.width; len = h.len; size = size; edition = h.edition })
-    ∙ ap (λ (q : List Sheet). set q i (sheet_of (paste m u (drop h.at m) (h.width + h.len)) (moved_to u h))) k ∙ ap (λ (q : Sheet). set (sheets_of m hs) i q) s ∙ e where
+    ap (λ (q : List ℕ). sheets_of q (set hs i h')) em ∙ map-set (sheet_of new) hs i h'
+    ∙ ap (λ (q : List Sheet). set q i (sheet_of new h')) k ∙ ap (λ (q : Sheet). set (sheets_of m hs) i q) s ∙ e where
       same_set : (xs : List Sheet) (i : ℕ) → set xs i (get_or xs i blank_sheet) ≡ xs
       same_set [] i = refl
       same_set (x ∷ xs) zero = refl
@@ -153,8 +146,3 @@ rising_named (y ∷ ys) (suc i) x e =
 
 pub sheets_removed : (m : List ℕ) (hs : List Head) (i : ℕ) → sheets_of m (remove hs i) ≡ remove (sheets_of m hs) i
 sheets_removed m hs i = rw (map-append, ← (take-map (sheet_of m) i hs), ← (drop-map (sheet_of m) (suc i) hs))
-
-pub weight_none : (xs : List Sheet) → (0 < length xs) ⊎ (weight xs ≡ 0)
-unfolding weight
-weight_none [] = inr refl
-weight_none (x ∷ xs) = inl (omega arith)

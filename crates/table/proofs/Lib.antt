@@ -1,3 +1,4 @@
+pub mod Ranges
 pub mod Order
 pub mod Ranks
 pub mod Finds

@@ -1,33 +1,16 @@
 -- The order of names: step by step, and its laws.
-use Rattle.std.proofs.Common.{◌≡◌, ℕ, ◌+◌, ◌<◌, ◌≤◌, true, false, ◌&&◌, ◌||◌, eqb, ltb, ◌⊎◌, List, [], ◌∷◌, length, get_or, drop, sym, refl, ◌∙◌, inl, inr, arith}
-use Rattle.std.proofs.lemmas.List.{drop_more, drop_all}
+use Rattle.std.proofs.Common.{◌≡◌, Bool, not, Some, ℕ, true, false, List, [], ◌∷◌, sym, refl, ◌∙◌, arith}
 use Rattle.std.proofs.lemmas.Bool.Decides.{nat_tests}
-use Rattle.std.proofs.lemmas.Bool.{false≢true, lt-ltb, le-ltb, cases_lt}
+use Rattle.std.proofs.lemmas.Bool.{false≢true}
+use Rattle.std.specs.Ordering.{is_lt, is_le, is_some_and, nat_cmp}
+use Rattle.std.specs.Cmp.Lexicographic.{slice_partial_cmp}
+use Rattle.std.proofs.lemmas.Cmp.{same_from_slice_cmp_tested}
 use Rattle.promise.specs.Sheets.{less}
-
-less_step : (a b : List ℕ) (i : ℕ) → i < length a → i < length b → less (drop i a) (drop i b) ≡ (ltb (get_or a i 0) (get_or b i 0) || (eqb (get_or a i 0) (get_or b i 0) && less (drop (i + 1) a) (drop (i + 1) b)))
-unfolding less
-less_step a b i p q = rw (drop_more a i 0 p, drop_more b i 0 q)
-
-pub less_on : (a b : List ℕ) (i : ℕ) → i < length a → i < length b → get_or a i 0 ≡ get_or b i 0 → less (drop (i + 1) a) (drop (i + 1) b) ≡ less (drop i a) (drop i b)
-less_on a b i p q e = let s = less_step a b i p q in grind (arith, nat_tests)
-
-pub less_off : (a b : List ℕ) (i : ℕ) → i < length a → i < length b → (get_or a i 0 ≡ get_or b i 0 → ⊥) → ltb (get_or a i 0) (get_or b i 0) ≡ less (drop i a) (drop i b)
-less_off a b i p q e = let s = less_step a b i p q in grind (arith, nat_tests)
 
 less_nil_right : (a : List ℕ) → less a [] ≡ false
 unfolding less
 less_nil_right [] = refl
 less_nil_right (x ∷ a) = refl
-
-less_nil_left : (b : List ℕ) (i : ℕ) → (i < length b) ⊎ (length b ≤ i) → ltb i (length b) ≡ less [] (drop i b)
-unfolding less
-less_nil_left b i (inl h) = rw (drop_more b i 0 h, lt-ltb i (length b) h)
-less_nil_left b i (inr h) = rw (drop_all i b h, le-ltb i (length b) h)
-
-pub less_end : (a b : List ℕ) (i : ℕ) → (length a ≤ i) ⊎ (length b ≤ i) → ltb i (length b) ≡ less (drop i a) (drop i b)
-less_end a b i (inr h) = rw (drop_all i b h, less_nil_right, le-ltb i (length b) h)
-less_end a b i (inl h) = rw (drop_all i a h) (less_nil_left b i (cases_lt i (length b)))
 
 pub less_trans : (a b c : List ℕ) → less a b ≡ true → less b c ≡ true → less a c ≡ true
 unfolding less
@@ -53,3 +36,17 @@ less_same (x ∷ a) (y ∷ b) p q =
     let r : less b a ≡ false = grind (arith, nat_tests) in
     let i = less_same a b l r in
     cc
+
+pub less_self : (a : List ℕ) → less a a ≡ false
+unfolding less
+less_self [] = refl
+less_self (x ∷ a) = let h = less_self a in grind (arith, nat_tests)
+
+-- what `<` and `<=` on slices test
+pub less_lt : (a b : List ℕ) (r : Bool) → r ≡ is_some_and is_lt (slice_partial_cmp (λ x y. Some (nat_cmp x y)) a b) → r ≡ less a b
+unfolding less
+less_lt = same_from_slice_cmp_tested nat_cmp is_lt less refl (λ _ _. refl) (λ _ _. refl) (λ x y xs ys o h. grind (arith, nat_tests))
+
+pub less_le : (a b : List ℕ) (r : Bool) → r ≡ is_some_and is_le (slice_partial_cmp (λ x y. Some (nat_cmp x y)) a b) → r ≡ not (less b a)
+unfolding less
+less_le = same_from_slice_cmp_tested nat_cmp is_le (λ a b. not (less b a)) refl (λ _ _. refl) (λ _ _. refl) (λ x y xs ys o h. grind (arith, nat_tests))

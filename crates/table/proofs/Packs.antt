@@ -2,17 +2,17 @@
 use Rattle.std.proofs.Common.{◌≡◌, ℕ, zero, suc, ◌+◌, ◌*◌, ◌<◌, ◌≤◌, true, cond, leb, ◌⊎◌, List, [], ◌∷◌, length, get_or, take, drop, set, sym, refl, ap, ◌∙◌, subst, inl, inr, ⊎_elim, zero-le, arith}
 use lib.Seq.{paste}
 use Rattle.std.proofs.lemmas.Bool.Decides.{nat_tests}
-use Rattle.std.proofs.lemmas.List.{same_lists, length-set, length-map, length-drop, drop-drop, get_or-map}
+use Rattle.std.proofs.lemmas.List.{same_lists, length-set, length-map, length-drop, length-take-le, drop-drop, get_or-map}
 use Rattle.std.proofs.lemmas.List.Edits.{length-paste}
 use Rattle.std.proofs.lemmas.Bool.{and_parts, cases_eq}
 use Rattle.promise.specs.Bytes.{every}
 use Rattle.promise.specs.Sheets.{Sheet, weight}
 use Rattle.table.specs.declared.heads.Head.{Head}
 use Rattle.table.specs.View.{cut, sheet_of, sheets_of, below, apart, clear, blank_head}
-use Rattle.table.specs.Packing.{Ordered, Packed}
+use Rattle.table.specs.Packing.{Ordered, Packed, Compacted}
 use Rattle.table.proofs.Fits.{Lies, lies, lies_at, below_from}
 use Rattle.table.proofs.Parts.{cut_length}
-use Rattle.table.proofs.Pastes.{paste_in, sheet_below, sheet_above}
+use Rattle.table.proofs.Pastes.{cut_first, paste_in, sheet_below, sheet_above}
 use Rattle.table.proofs.Apart.{every_set, every_from, set_each, clear_sym, clear_cases, clear_before, apart_at, apart_set}
 
 -- what a piece that waits will take
@@ -87,6 +87,7 @@ pub record Sliding (m : List ℕ) (hs : List Head) (ps : List (ℕ × ℕ)) (m' 
   pub inside : every (below (length m)) hs' ≡ true
   pub pieces : apart hs' ≡ true
   pub order : to ≤ edge
+  pub fits : to ≤ length m
   pub stands : (j : ℕ) → j < length hs → Stands hs ps k to edge (get_or hs' j blank_head) j
   pub owes : to + owed edge hs' ≤ owed 0 hs
 
@@ -98,31 +99,10 @@ start m hs ps b a o = record {
   inside = b;
   pieces = a;
   order = omega arith;
+  fits = zero-le;
   stands = λ j l. inr (let q = o.whole j l in record { from = zero-le; still = refl; turn = q.0; later = zero-le; within = q.1; its = q.2 });
   owes = omega arith;
 }
-
--- the next of the spots is of a piece that was moved
-pub skip : (m : List ℕ) (hs : List Head) (ps : List (ℕ × ℕ)) (m' : List ℕ) (hs' : List Head) (k to edge : ℕ) → (get_or hs' (get_or ps k (0, 0)).1 blank_head).at < edge → Sliding m hs ps m' hs' k to edge → Sliding m hs ps m' hs' (k + 1) to edge
-skip m hs ps m' hs' k to edge h s = record {
-  long = s.long;
-  wide = s.wide;
-  same = s.same;
-  inside = s.inside;
-  pieces = s.pieces;
-  order = s.order;
-  owes = s.owes;
-  stands = λ j l. by j (s.stands j l);
-} where
-  by : (j : ℕ) → Stands hs ps k to edge (get_or hs' j blank_head) j → Stands hs ps (k + 1) to edge (get_or hs' j blank_head) j
-  by j (inl d) = inl d
-  by j (inr w) = ⊎_elim
-      (λ (e : w.turn ≡ k).
-      let i : (get_or ps k (0, 0)).1 ≡ j = ap (λ (q : ℕ). (get_or ps q (0, 0)).1) (sym e) ∙ w.its in
-      let z : (get_or hs' j blank_head).at < edge = subst (λ (q : ℕ). (get_or hs' q blank_head).at < edge) i h in
-      absurd (omega (arith, w.from)))
-      (λ (ne : w.turn ≡ k → ⊥). inr (record { from = w.from; still = w.still; turn = w.turn; later = omega (arith, w.later); within = w.within; its = w.its }))
-      (cases_eq w.turn k)
 
 abbrev pub moved_to : ℕ → Head → Head
 moved_to to h = record { at = to; width = h.width; len = h.len; size = h.len; edition = h.edition }
@@ -167,6 +147,14 @@ next m hs ps m' hs' k to edge i h o kl ei eh e s =
           (subst (λ (g : Head). clear g (get_or hs' j blank_head) ≡ true) (sym eh) (apart_at hs' i j s.pieces il' (omega (arith, s.long)) (λ q. ne (sym q)))) (s.stands j jl);
     }
 
+-- the head that the spot at k notes
+abbrev pub spotted : List Head → List (ℕ × ℕ) → ℕ → Head
+spotted hs ps k = get_or hs (get_or ps k (0, 0)).1 blank_head
+
+-- the piece that the spot at k notes waits, if it lies behind the edge
+pub waiting : {m : List ℕ} {hs : List Head} {ps : List (ℕ × ℕ)} {m' : List ℕ} {hs' : List Head} {k to edge : ℕ} → Ordered hs ps → k < length ps → edge ≤ (spotted hs' ps k).at → Sliding m hs ps m' hs' k to edge → Next m hs ps hs' k to edge (get_or ps k (0, 0)).1 (spotted hs' ps k)
+waiting {m} {hs} {ps} {m'} {hs'} {k} {to} {edge} o kl e s = next m hs ps m' hs' k to edge (get_or ps k (0, 0)).1 (spotted hs' ps k) o kl refl refl e s
+
 -- a piece stands for the same sheet where its name and bytes were copied to
 pub moved_same : (m : List ℕ) (to : ℕ) (h : Head) → h.at + (h.width + h.len) ≤ length m → to + (h.width + h.len) ≤ length m → sheet_of (paste m to (drop h.at m) (h.width + h.len)) (moved_to to h) ≡ sheet_of m h
 moved_same m to h l f =
@@ -205,6 +193,7 @@ move m hs ps m' hs' k to edge i h m'' eh e s n em =
           (λ (w : Waits hs ps (k + 1) (h.at + h.width + h.size) (get_or hs' j blank_head) j). clear_before (moved_to to h) (get_or hs' j blank_head) (omega (arith, w.from, l.filled, n.down)))
           (n.others j (omega (arith, s.long)) ne));
       order = omega (arith, l.filled, n.down);
+      fits = omega (arith, f, s.wide);
       stands = set_each (λ j x. j < length hs → Stands hs ps (k + 1) (to + (h.width + h.len)) (h.at + h.width + h.size) x j) hs' i (moved_to to h) il'
           (λ jl. inl (omega arith))
           (λ j ne jl. ⊎_elim (λ (d : (get_or hs' j blank_head).at + (get_or hs' j blank_head).width + (get_or hs' j blank_head).size ≤ to). inl (omega arith)) (λ (w : Waits hs ps (k + 1) (h.at + h.width + h.size) (get_or hs' j blank_head) j). inr w) (n.others j jl ne));
@@ -218,6 +207,7 @@ move m hs ps m' hs' k to edge i h m'' eh e s n em =
 pub finish : (m : List ℕ) (hs : List Head) (ps : List (ℕ × ℕ)) (m' : List ℕ) (hs' : List Head) (k to edge : ℕ) → every (below (length m)) hs ≡ true → length ps ≤ k → Sliding m hs ps m' hs' k to edge → Packed m hs m' hs' to
 finish m hs ps m' hs' k to edge b e s = record {
   long = s.wide;
+  within = s.fits;
   same = same_lists (sheets_of m' hs') (sheets_of m hs) (length-map hs' (sheet_of m') ∙ s.long ∙ sym (length-map hs (sheet_of m))) (λ j d l. at j d (subst (λ (q : ℕ). j < q) (length-map hs' (sheet_of m')) l));
   inside = every_from (below to) hs' blank_head (λ j l. below_at j l (lies_at (length m) hs' j s.inside l) (s.stands j (omega (arith, s.long))));
   pieces = s.pieces;
@@ -229,3 +219,26 @@ finish m hs ps m' hs' k to edge b e s = record {
   below_at : (j : ℕ) → j < length hs' → Lies (length m) (get_or hs' j blank_head) → Stands hs ps k to edge (get_or hs' j blank_head) j → below to (get_or hs' j blank_head) ≡ true
   below_at j l q (inl d) = below_from to (get_or hs' j blank_head) (record { piece = d; filled = q.filled; named = q.named; narrow = q.narrow; short = q.short })
   below_at j l q (inr w) = absurd (omega (arith, w.later, w.within))
+
+-- the log cut off behind the pieces stands for the same sheets
+kept_first : (m : List ℕ) (u : ℕ) (hs : List Head) → u ≤ length m → every (below u) hs ≡ true → sheets_of (take u m) hs ≡ sheets_of m hs
+unfolding every
+kept_first m u [] l b = refl
+kept_first m u (h ∷ hs) l b =
+    let p = and_parts (below u h) (every (below u) hs) b in
+    let q = lies u h p.0 in
+    let x : cut h.at h.width (take u m) ≡ cut h.at h.width m = cut_first m u h.at h.width l (omega (arith, q.piece)) in
+    let y : cut (h.at + h.width) h.len (take u m) ≡ cut (h.at + h.width) h.len m = cut_first m u (h.at + h.width) h.len l (omega (arith, q.piece, q.filled)) in
+    let z = kept_first m u hs l p.1 in
+    cc
+
+pub cut_off : (m : List ℕ) (hs : List Head) (m' : List ℕ) (hs' : List Head) (u : ℕ) → Packed m hs m' hs' u → Compacted m hs (take u m') hs'
+cut_off m hs m' hs' u p =
+    let l : u ≤ length m' = omega (arith, p.within, p.long) in
+    let e : length (take u m') ≡ u = length-take-le u m' l in
+    record {
+      same = kept_first m' u hs' l p.inside ∙ p.same;
+      inside = subst (λ (n : ℕ). every (below n) hs' ≡ true) (sym e) p.inside;
+      pieces = p.pieces;
+      small = omega (arith, e, p.small);
+    }

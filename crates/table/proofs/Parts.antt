@@ -1,6 +1,6 @@
 -- Parts of lists of bytes.
-use Rattle.std.proofs.Common.{◌≡◌, ℕ, zero, suc, ◌+◌, ◌-◌, ◌≤◌, List, [], ◌∷◌, length, take, drop, sym, refl, ap, ◌∙◌, subst, arith}
-use Rattle.std.proofs.lemmas.List.{drop_all, take_all, length-drop, length-take-le}
+use Rattle.std.proofs.Common.{◌≡◌, ℕ, zero, suc, ◌+◌, ◌≤◌, List, [], ◌∷◌, length, take, drop, refl, ap, subst, arith}
+use Rattle.std.proofs.lemmas.List.{length-drop, length-take-le}
 use Rattle.promise.specs.Sheets.{first_of, drop_of}
 use Rattle.table.specs.View.{cut}
 
@@ -15,17 +15,6 @@ unfolding drop_of
 drop_drops zero xs = refl
 drop_drops (suc n) [] = refl
 drop_drops (suc n) (x ∷ xs) = drop_drops n xs
-
-take_nil : (n : ℕ) → take {A = ℕ} n [] ≡ []
-take_nil n = take_all n [] (omega arith)
-
-pub part_none : (bs : List ℕ) (a b i j : ℕ) → length bs ≤ i → length bs ≤ j → take a (drop i bs) ≡ take b (drop j bs)
-part_none bs a b i j h k = rw (drop_all i bs h, drop_all j bs k) (take_nil a ∙ sym (take_nil b))
-
-pub part_all : (bs : List ℕ) (a b i : ℕ) → length bs - i ≤ a → length bs - i ≤ b → take a (drop i bs) ≡ take b (drop i bs)
-part_all bs a b i h k =
-    let n = length-drop i bs in
-    take_all a (drop i bs) (omega arith) ∙ sym (take_all b (drop i bs) (omega arith))
 
 pub cut_length : (m : List ℕ) (a n : ℕ) → a + n ≤ length m → length (cut a n m) ≡ n
 cut_length m a n h = let d = length-drop a m in length-take-le n (drop a m) (omega arith)

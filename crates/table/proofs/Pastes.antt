@@ -1,18 +1,14 @@
 -- Parts of a memory that was written over.
-use Rattle.std.proofs.Common.{◌≡◌, ℕ, ◌+◌, ◌<◌, ◌≤◌, List, length, get_or, drop, set, arith, rules}
+use Rattle.std.proofs.Common.{◌≡◌, ℕ, ◌+◌, ◌≤◌, List, ◌++◌, length, take, drop, ap, ◌∙◌, arith, rules}
+use Rattle.std.specs.List.{copy_within, slice_range}
 use lib.Seq.{paste}
-use Rattle.std.proofs.lemmas.List.{places, same_lists, length-drop}
-use Rattle.std.proofs.lemmas.List.Edits.{paste_more}
+use Rattle.std.proofs.lemmas.List.{places, same_lists}
 use Rattle.table.specs.declared.heads.Head.{Head}
 use Rattle.table.specs.View.{cut, sheet_of}
 
--- what a slide that has moved i bytes down finds at the next: the byte as it was
-ahead : (xs : List ℕ) (from to i : ℕ) → to ≤ from → from + i < length xs → get_or (paste xs to (drop from xs) i) (from + i) 0 ≡ get_or (drop from xs) i 0
-ahead xs from to i p q = grind (arith, places)
-
-pub slide_more : (xs ys : List ℕ) (from to i : ℕ) → to ≤ from → from + i < length xs → ys ≡ paste xs to (drop from xs) i → set ys (to + i) (get_or ys (from + i) 0) ≡ paste xs to (drop from xs) (i + 1)
-slide_more xs ys from to i p q e =
-    rw e (rw (ahead xs from to i p q) (paste_more xs to (drop from xs) i 0 (omega arith) (simp length-drop (omega arith))))
+-- n bytes moved from one place to another
+pub moved_within : (m m' : List ℕ) (from to n : ℕ) → m' ≡ copy_within m from (from + n) to → m' ≡ paste m to (drop from m) n
+moved_within m m' from to n e = e ∙ ap (paste m to (drop from m)) (omega arith)
 
 -- a part before what was written is as it was
 pub paste_below : (m s : List ℕ) (at k a n : ℕ) → at + k ≤ length m → k ≤ length s → a + n ≤ at → cut a n (paste m at s k) ≡ cut a n m
@@ -39,9 +35,21 @@ sheet_above m s at k h l g b =
     let y = paste_above m s at k (h.at + h.width) h.len l g (omega arith) in
     rw (x, y)
 
-behind : (xs : List ℕ) (from to i n : ℕ) → from + n ≤ to → to + n ≤ length xs → i < n → get_or (paste xs to (drop from xs) i) (from + i) 0 ≡ get_or (drop from xs) i 0
-behind xs from to i n p q l = grind (arith, places)
+-- parts of what is cut off, and of what bytes were written behind
+pub cut_first : (m : List ℕ) (u a n : ℕ) → u ≤ length m → a + n ≤ u → cut a n (take u m) ≡ cut a n m
+cut_first m u a n l h = same_lists _ _ (search (rules, places)) (λ i d x. grind (arith, places))
 
-pub copy_more : (xs ys : List ℕ) (from to i n : ℕ) → from + n ≤ to → to + n ≤ length xs → i < n → ys ≡ paste xs to (drop from xs) i → set ys (to + i) (get_or ys (from + i) 0) ≡ paste xs to (drop from xs) (i + 1)
-copy_more xs ys from to i n p q l e =
-    rw e (rw (behind xs from to i n p q l) (paste_more xs to (drop from xs) i 0 (omega arith) (simp length-drop (omega arith))))
+pub cut_front : (m s : List ℕ) (a n : ℕ) → a + n ≤ length m → cut a n (m ++ s) ≡ cut a n m
+cut_front m s a n h = same_lists _ _ (search (rules, places)) (λ i d x. grind (arith, places))
+
+pub cut_behind : (m s : List ℕ) (a n : ℕ) → cut (length m + a) n (m ++ s) ≡ cut a n s
+cut_behind m s a n = same_lists _ _ (search (rules, places)) (λ i d x. grind (arith, places))
+
+pub sheet_front : (m s : List ℕ) (h : Head) → h.at + h.width + h.len ≤ length m → sheet_of (m ++ s) h ≡ sheet_of m h
+sheet_front m s h l =
+    let x = cut_front m s h.at h.width (omega arith) in
+    let y = cut_front m s (h.at + h.width) h.len l in
+    rw (x, y)
+
+pub cut_copied : (m z : List ℕ) (a k b n : ℕ) → a + k ≤ length m → b + n ≤ k → cut b n (slice_range m a (a + k) ++ z) ≡ cut (a + b) n m
+cut_copied m z a k b n l h = same_lists _ _ (search (rules, places)) (λ i d x. grind (arith, places))

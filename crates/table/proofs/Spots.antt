@@ -1,23 +1,21 @@
 -- Where pieces begin, noted and sorted.
-use Rattle.std.proofs.Common.{◌≡◌, ℕ, ◌+◌, ◌<◌, ◌≤◌, false, ◌⊎◌, List, [], ◌∷◌, ◌++◌, length, get_or, Ordering, Less, sym, refl, ap, ◌∙◌, subst, inl, inr, ⊎_elim, arith}
+use Rattle.std.proofs.Common.{◌≡◌, ℕ, ◌+◌, ◌<◌, ◌≤◌, false, ◌⊎◌, List, length, get_or, Ordering, Less, sym, refl, ap, ◌∙◌, subst, inl, inr, arith}
 use Rattle.std.specs.Cmp.{nat_cmp_is}
 use Rattle.std.specs.Ordering.{is_lt, ordering_then, nat_cmp}
 use Rattle.std.specs.List.Sorted.{IsPermutation, IsSortedWithin}
 use Rattle.std.specs.List.{ContainsAt as Has, AllByRecursion as All}
 use Rattle.std.proofs.lemmas.List.Sorted.{IsNonDecreasingBy-from_all_adjacent}
 use Rattle.std.proofs.ByRecursion.{all_shuffled, has_shuffled, All-from_get_or, All-get_or}
-use Rattle.std.proofs.lemmas.List.{get_or_push, get_or_append_left, get_or_default}
+use Rattle.std.proofs.lemmas.List.{get_or_default}
 use Rattle.std.proofs.lemmas.Bool.{cases_lt, false≢true}
 use Rattle.table.specs.declared.heads.Head.{Head}
 use Rattle.table.specs.View.{blank_head}
-use Rattle.table.specs.Packing.{Marked, Ordered}
+use Rattle.table.specs.Packing.{Ordered}
 
--- one more spot is noted
-pub marked_more : (hs : List Head) (ps : List (ℕ × ℕ)) (i : ℕ) → length ps ≡ i → ((q : ℕ) → q < i → get_or ps q (0, 0) ≡ ((get_or hs q blank_head).at, q)) → (q : ℕ) → q < i + 1 → get_or (ps ++ ((get_or hs i blank_head).at, i) ∷ []) q (0, 0) ≡ ((get_or hs q blank_head).at, q)
-marked_more hs ps i l f q h = ⊎_elim
-    (λ (x : q < i). let y : q < length ps = omega arith in get_or_append_left ps (((get_or hs i blank_head).at, i) ∷ []) (0, 0) q y ∙ f q x)
-    (λ (x : i ≤ q). let e : i ≡ q = omega arith in get_or_push ps ((get_or hs i blank_head).at, i) (0, 0) q (l ∙ e) ∙ ap (λ (k : ℕ). ((get_or hs k blank_head).at, k)) e)
-    (cases_lt q i)
+-- where each piece begins, with the index of its head
+pub record Marked (hs : List Head) (ps : List (ℕ × ℕ)) : Type 0 where
+  pub long : length ps ≡ length hs
+  pub each : (q : ℕ) → q < length hs → get_or ps q (0, 0) ≡ ((get_or hs q blank_head).at, q)
 
 -- of two pairs that are sorted the first parts are
 firsts : (x y : ℕ × ℕ) → is_lt (ordering_then (nat_cmp y.0 x.0) (nat_cmp y.1 x.1)) ≡ false → x.0 ≤ y.0

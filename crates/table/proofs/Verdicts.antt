@@ -1,9 +1,16 @@
 -- Why a change is turned away, where nobody holds anything.
-use Rattle.std.proofs.Common.{◌≡◌, ℕ, ◌+◌, ◌<◌, ◌≤◌, Bool, true, false, cond, not, ◌&&◌, ltb, leb, List, refl, arith}
+use Rattle.std.proofs.Common.{◌≡◌, ℕ, ◌+◌, ◌<◌, ◌≤◌, Bool, true, false, cond, not, ◌&&◌, ltb, leb, List, Result, Ok, Err, IsErrAnd, refl, ap, arith}
 use Rattle.std.proofs.lemmas.Bool.Decides.{nat_tests}
-use Rattle.promise.specs.Sheets.{Sheet, Name, Expect, Out, Edition, changes, no, find, is_sheet, put, weight, edition_of, as_expected, keep, none, other_edition, used_up, no_room}
-use Rattle.table.specs.Tables.{new_sheet, after_put}
+use Rattle.codec.specs.declared.answer.Changed.{Changed}
+use Rattle.codec.specs.declared.answer.Refusal.{Refusal}
+use Rattle.codec.specs.Answers.{refusal_number}
+use Rattle.promise.specs.Sheets.{Sheet, Name, State, Expect, Out, Edition, changes, no, find, is_sheet, put, weight, edition_of, as_expected, keep, none, other_edition, used_up, no_room}
+use Rattle.table.specs.Tables.{new_sheet, after_put, out_of, Admits}
 use Rattle.table.proofs.Readings.{plain}
+
+-- what is admitted of a table is admitted of its equal
+pub admits_as : (room room' : ℕ) (s s' : State) (xs xs' : List Sheet) → room' ≡ room → s' ≡ s → xs' ≡ xs → Admits room s xs → Admits room' s' xs'
+admits_as room room' s s' xs xs' r e x a = record { light = omega (arith, r, ap weight x, a.light); counted = omega (arith, ap (λ (q : State). q.changes') e, a.counted) }
 
 -- a change, where nobody holds anything
 abbrev open_to : (room : ℕ) → Name → List ℕ → List Sheet → ℕ → (expected used heavy : Bool) → Out
@@ -31,3 +38,8 @@ admitted room d n e bs xs k w p q z r =
     let u : leb 4611686018427387904 k ≡ false = grind (arith, nat_tests) in
     let h : (ltb room (weight (put (new_sheet n bs (plain xs k)) xs)) && ltb (weight xs) (weight (put (new_sheet n bs (plain xs k)) xs))) ≡ false = grind (arith, nat_tests) in
     changes_by room d n e bs xs k true false false p u h
+
+-- a call that is turned away is answered by the reason, and leaves all as it was
+pub turned_away : (r : Result Changed Refusal) (k : Refusal) (s : State) → IsErrAnd r (λ e. e ≡ k) → out_of r s ≡ no (refusal_number k) s
+turned_away (Ok r) k s h = absurd h
+turned_away (Err e) k s h = ap (λ (q : Refusal). no (refusal_number q) s) h

@@ -4,7 +4,7 @@ use Rattle.std.specs.List.{insert, remove}
 use Rattle.std.proofs.lemmas.Bool.{and_parts, and_from}
 use Rattle.promise.specs.Bytes.{every}
 use Rattle.promise.specs.Sheets.{Sheet, Name, less, put, weight}
-use Rattle.table.specs.View.{rising, laid, blank_sheet}
+use Rattle.table.specs.View.{rising, blank_sheet}
 use Rattle.table.proofs.Order.{less_same}
 use Rattle.table.proofs.Finds.{every_above}
 use Rattle.table.proofs.Apart.{every_removed}
@@ -75,13 +75,11 @@ weight_count [] = omega arith
 weight_count (x ∷ xs) = let w = weight_count xs in omega arith
 
 -- what is laid weighs, where something stands and where nothing does
-pub weighs_there : (xs : List Sheet) (i load len old : ℕ) (b : Bool) → b ≡ true → load ≡ weight xs → i < length xs → old ≡ length (get_or xs i blank_sheet).bytes → (x : Sheet) → length x.bytes ≡ len → load - old + len ≡ weight (laid xs i b x)
-weighs_there xs i load len old b t w l o x e =
+pub weighs_there : (xs : List Sheet) (i load len old : ℕ) → load ≡ weight xs → i < length xs → old ≡ length (get_or xs i blank_sheet).bytes → (x : Sheet) → length x.bytes ≡ len → load - old + len ≡ weight (set xs i x)
+weighs_there xs i load len old w l o x e =
     let r = weight_set xs i x blank_sheet l in
     let s = weight_removed xs i blank_sheet l in
-    subst (λ (v : Bool). load - old + len ≡ weight (laid xs i v x)) (sym t) (omega arith)
+    omega arith
 
-pub weighs_away : (xs : List Sheet) (i load len : ℕ) (b : Bool) → b ≡ false → load ≡ weight xs → (x : Sheet) → length x.bytes ≡ len → load + 512 + len ≡ weight (laid xs i b x)
-weighs_away xs i load len b t w x e =
-    let r = weight_inserted xs i x in
-    subst (λ (v : Bool). load + 512 + len ≡ weight (laid xs i v x)) (sym t) (omega arith)
+pub weighs_away : (xs : List Sheet) (i load len : ℕ) → load ≡ weight xs → (x : Sheet) → length x.bytes ≡ len → load + 512 + len ≡ weight (insert xs i x)
+weighs_away xs i load len w x e = let r = weight_inserted xs i x in omega arith

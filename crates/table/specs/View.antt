@@ -1,6 +1,6 @@
 -- What sheets a log and the heads over it stand for.
 -- Assumes nothing.
-use Rattle.std.specs.Prelude.{◌≡◌, ℕ, zero, suc, ◌+◌, ◌/◌, ◌<◌, ◌≤◌, min, Bool, true, cond, ◌&&◌, ◌||◌, List, [], ◌∷◌, map, length, get_or, take, drop, nat_le, slice_index_or, slice_set}
+use Rattle.std.specs.Prelude.{◌≡◌, ℕ, zero, suc, ◌+◌, ◌/◌, ◌<◌, ◌≤◌, min, Bool, true, cond, ◌&&◌, ◌||◌, List, [], ◌∷◌, Result, Ok, Err, map, length, get_or, take, drop, nat_le, slice_index_or, slice_set}
 use Rattle.std.specs.List.{insert, remove}
 use Rattle.promise.specs.Bytes.{every}
 use Rattle.promise.specs.Sheets.{Sheet, Name, less, find, is_sheet, put, keep, without, patched}
@@ -58,20 +58,37 @@ pub record Sound (m : List ℕ) (hs : List Head) : Type 0 where
   pub inside : every (below (length m)) hs ≡ true
   pub sorted : rising (sheets_of m hs) ≡ true
 
--- a sheet laid at an index, in the place of what stands there or before it
-abbrev pub laid : List Sheet → ℕ → (found : Bool) → Sheet → List Sheet
-laid xs i found x = cond found (slice_set xs i x) (insert xs i x)
+-- what is laid at a place that was looked up: over what stands there, or before it
+abbrev pub laid : {A : Type 0} → List A → Result ℕ ℕ → A → List A
+laid xs (Ok i) x = slice_set xs i x
+laid xs (Err i) x = insert xs i x
+
+-- the sheet that stands at a place that was looked up, if one does
+abbrev pub standing : List Sheet → Result ℕ ℕ → List Sheet
+standing xs (Ok i) = slice_index_or xs i blank_sheet ∷ []
+standing xs (Err i) = []
 
 -- a sheet whose bytes were written over from a place on, and which has so many of them then
 abbrev pub filled_sheet : List Sheet → (i offset : ℕ) → List ℕ → (len edition : ℕ) → Sheet
 filled_sheet xs i offset bs len e = record { name = (get_or xs i blank_sheet).name; bytes = take len (patched offset bs (get_or xs i blank_sheet).bytes); edition = e }
 
--- i is the place of the name n among sheets: what is found there, what a put or a remove of that name does, and which come after it
-pub record Finding (xs : List Sheet) (n : Name) (i : ℕ) (found : Bool) : Type 0 where
+-- the sheet of the name n stands at i: what is found there, what a put or a remove of that name does, and which come after it
+pub record StandsAt (xs : List Sheet) (n : Name) (i : ℕ) : Type 0 where
+  pub within : i < length xs
+  pub named : (get_or xs i blank_sheet).name ≡ n
+  pub finds : find (is_sheet n) xs ≡ slice_index_or xs i blank_sheet ∷ []
+  pub drops : without n xs ≡ remove xs i
+  pub after : keep (λ (x : Sheet). less n x.name) xs ≡ drop (suc i) xs
+  pub puts : (x : Sheet) → x.name ≡ n → put x xs ≡ slice_set xs i x
+
+-- there is no sheet of the name n, and i is where it would stand
+pub record WouldStandAt (xs : List Sheet) (n : Name) (i : ℕ) : Type 0 where
   pub within : i ≤ length xs
-  pub there : found ≡ true → i < length xs
-  pub named : found ≡ true → (get_or xs i blank_sheet).name ≡ n
-  pub finds : find (is_sheet n) xs ≡ cond found (slice_index_or xs i blank_sheet ∷ []) []
-  pub drops : found ≡ true → without n xs ≡ remove xs i
-  pub after : keep (λ (x : Sheet). less n x.name) xs ≡ drop (cond found (suc i) i) xs
-  pub puts : (x : Sheet) → x.name ≡ n → put x xs ≡ laid xs i found x
+  pub finds : find (is_sheet n) xs ≡ []
+  pub after : keep (λ (x : Sheet). less n x.name) xs ≡ drop i xs
+  pub puts : (x : Sheet) → x.name ≡ n → put x xs ≡ insert xs i x
+
+-- what a look-up of the name n among sheets answers
+abbrev pub Finding : List Sheet → Name → Result ℕ ℕ → Type 0
+Finding xs n (Ok i) = StandsAt xs n i
+Finding xs n (Err i) = WouldStandAt xs n i

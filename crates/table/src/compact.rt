@@ -2,34 +2,24 @@
 ghost use Rattle.std.specs.Prelude.{◌≡◌, ◌≤◌, true, length, vec_len, vec_capacity};
 ghost use Rattle.promise.specs.Bytes.{every};
 ghost use Rattle.table.specs.View.{below, apart};
-ghost use Rattle.table.specs.Packing.{Marked, Ordered, Packed};
+ghost use Rattle.table.specs.Packing.{Ordered, Packed, Compacted};
 
 use crate::heads::Head;
-use crate::log::slide;
 
-// Notes where each piece begins, with the index of its head.
-fn mark(heads: &[Head], spots: &mut Vec<(usize, usize)>)
-    requires { length heads.now ≤ vec_capacity spots.old }
-    ensures marked { Marked heads.now spots.new.items }
-    ensures capacity { vec_capacity spots.new ≡ vec_capacity spots.old }
-{
-    spots.clear();
-    for i in 0..heads.len() {
-        spots.push_reserved((heads[i].at, i));
-    }
-}
-
-// The same in the order of the log.
+// Notes where each piece begins, with the index of its head, in the order of the log.
 fn arrange(heads: &[Head], spots: &mut Vec<(usize, usize)>)
     requires { length heads.now ≤ vec_capacity spots.old }
     ensures ordered { Ordered heads.now spots.new.items }
     ensures capacity { vec_capacity spots.new ≡ vec_capacity spots.old }
 {
-    mark(heads, spots);
+    spots.clear();
+    for (i, head) in heads.iter().enumerate() {
+        spots.push_reserved((head.at, i));
+    }
     spots.sort_unstable();
 }
 
-// Slides all pieces down in that order, and answers how much of the log is used then.
+// Slides all pieces down in that order, and answers how much of the log they take then.
 fn pack(mem: &mut [u8], heads: &mut [Head], spots: &[(usize, usize)]) -> usize
     requires inside { every (below (length mem.old)) heads.old ≡ true }
     requires pieces { apart heads.old ≡ true }
@@ -38,21 +28,18 @@ fn pack(mem: &mut [u8], heads: &mut [Head], spots: &[(usize, usize)]) -> usize
 {
     let mut to = 0;
     let mut edge = 0;
-    for k in 0..spots.len() {
-        let i = spots[k].1;
+    for &(_, i) in spots {
         let h = heads[i];
         // below the edge lies what was moved already
         if h.at < edge {
             continue;
         }
         let n = h.width + h.len;
-        slide(mem, h.at, to, n);
+        mem.copy_within(h.at..h.at + n, to);
         heads[i] = Head {
             at: to,
-            width: h.width,
-            len: h.len,
             size: h.len,
-            edition: h.edition,
+            ..h
         };
         edge = h.at + h.width + h.size;
         to += n;
@@ -60,16 +47,17 @@ fn pack(mem: &mut [u8], heads: &mut [Head], spots: &[(usize, usize)]) -> usize
     to
 }
 
-// Compacts the log, and answers how much of it is used then.
-pub fn compact(log: &mut Vec<u8>, heads: &mut Vec<Head>, spots: &mut Vec<(usize, usize)>) -> usize
+// Compacts the log.
+pub fn compact(log: &mut Vec<u8>, heads: &mut Vec<Head>, spots: &mut Vec<(usize, usize)>)
     requires inside { every (below (vec_len log.old)) heads.old.items ≡ true }
     requires pieces { apart heads.old.items ≡ true }
     requires free { vec_len heads.old ≤ vec_capacity spots.old }
-    ensures packed { Packed log.old.items heads.old.items log.new.items heads.new.items result }
-    ensures len { vec_len log.new ≡ vec_len log.old }
+    ensures packed { Compacted log.old.items heads.old.items log.new.items heads.new.items }
+    ensures log { vec_capacity log.new ≡ vec_capacity log.old }
     ensures heads { vec_capacity heads.new ≡ vec_capacity heads.old }
     ensures spots { vec_capacity spots.new ≡ vec_capacity spots.old }
 {
     arrange(heads.as_slice(), spots);
-    pack(log.as_mut_slice(), heads.as_mut_slice(), spots.as_slice())
+    let used = pack(log.as_mut_slice(), heads.as_mut_slice(), spots.as_slice());
+    log.truncate(used);
 }

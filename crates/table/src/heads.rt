@@ -15,9 +15,24 @@ pub struct Head {
     pub edition: Edition,
 }
 
-// The place of a name among the heads, and whether a sheet of that name stands there.
-#[derive(Clone, Copy)]
-pub struct Place {
-    pub index: usize,
-    pub found: bool,
+impl Head {
+    ghost use Rattle.std.specs.Prelude.{◌≡◌, true, length};
+    ghost use Rattle.table.specs.View.{below, sheet_of};
+
+    // The name of the sheet, in the memory where its piece lies.
+    pub fn name<'a>(&self, mem: &'a [u8]) -> &'a [u8]
+        requires { below (length mem.now) self.now ≡ true }
+        ensures { result.now ≡ (sheet_of mem.now self.now).name }
+    {
+        &mem[self.at..self.at + self.width]
+    }
+
+    // The bytes of the sheet.
+    pub fn bytes<'a>(&self, mem: &'a [u8]) -> &'a [u8]
+        requires { below (length mem.now) self.now ≡ true }
+        ensures { result.now ≡ (sheet_of mem.now self.now).bytes }
+    {
+        let from = self.at + self.width;
+        &mem[from..from + self.len]
+    }
 }

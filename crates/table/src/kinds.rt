@@ -1,8 +1,5 @@
-// Calls told apart: those that only read, and those that may change the table.
-ghost use Rattle.std.specs.Prelude.{◌≡◌};
-ghost use Rattle.codec.specs.Calls.{call_of};
-ghost use Rattle.table.specs.Tables.{kind_of};
-
+// Calls told apart: those that only read, and those that may change the table. (With `Call` alone, each of the two functions that take
+// them would have to say what it does with the other's calls.)
 use crate::tables::changes::Change;
 use crate::tables::queries::Query;
 use codec::call::Call;
@@ -14,35 +11,41 @@ pub enum Kind<'a> {
 }
 
 // The same call, as a query or as a change.
-pub fn split(call: Call<'_>) -> Kind<'_>
-    ensures { kind_of result ≡ call_of call.entry }
-{
-    match call {
-        Call::Read { name, start, most } => Kind::Query(Query::Read { name, start, most }),
-        Call::Names { after, most } => Kind::Query(Query::Names { after, most }),
-        Call::Put {
-            name,
-            expect,
-            bytes,
-        } => Kind::Change(Change::Put {
-            name,
-            expect,
-            bytes,
-        }),
-        Call::Patch {
-            name,
-            at,
-            expect,
-            bytes,
-        } => Kind::Change(Change::Patch {
-            name,
-            at,
-            expect,
-            bytes,
-        }),
-        Call::Remove { name, expect } => Kind::Change(Change::Remove { name, expect }),
-        Call::Rename { name, new } => Kind::Change(Change::Rename { name, new }),
-        Call::Take { name, alone } => Kind::Change(Change::Take { name, alone }),
-        Call::LetGo { name } => Kind::Change(Change::LetGo { name }),
+impl<'a> From<Call<'a>> for Kind<'a> {
+    ghost use Rattle.std.specs.Prelude.{◌≡◌};
+    ghost use Rattle.codec.specs.Calls.{call_of};
+    ghost use Rattle.table.specs.Tables.{kind_of};
+
+    ghost from_gives = { λ call kind. kind_of kind ≡ call_of call };
+
+    fn from(call: Call<'a>) -> Kind<'a> {
+        match call {
+            Call::Read { name, start, most } => Kind::Query(Query::Read { name, start, most }),
+            Call::Names { after, most } => Kind::Query(Query::Names { after, most }),
+            Call::Put {
+                name,
+                expect,
+                bytes,
+            } => Kind::Change(Change::Put {
+                name,
+                expect,
+                bytes,
+            }),
+            Call::Patch {
+                name,
+                at,
+                expect,
+                bytes,
+            } => Kind::Change(Change::Patch {
+                name,
+                at,
+                expect,
+                bytes,
+            }),
+            Call::Remove { name, expect } => Kind::Change(Change::Remove { name, expect }),
+            Call::Rename { name, new } => Kind::Change(Change::Rename { name, new }),
+            Call::Take { name, alone } => Kind::Change(Change::Take { name, alone }),
+            Call::LetGo { name } => Kind::Change(Change::LetGo { name }),
+        }
     }
 }

@@ -9,8 +9,9 @@ mod log;
 mod lookup;
 mod tables;
 
-pub use kinds::{Kind, split};
+pub use codec::answer::{Changed, Outcome};
+pub use kinds::Kind;
 pub use tables::Table;
-pub use tables::changes::{Change, Changed};
+pub use tables::changes::Change;
 pub use tables::listing::Listing;
 pub use tables::queries::{Query, Reading};

@@ -1,69 +1,36 @@
-// Bytes written into the log, and pieces of it moved.
-ghost use Rattle.std.specs.Prelude.{◌≡◌, ◌+◌, ◌≤◌, ◌++◌, length, drop, vec_len};
+// Bytes written into the log, in memory that is reserved: no call here can fail.
+ghost use Rattle.std.specs.Prelude.{◌≡◌, ◌+◌, ◌-◌, ◌≤◌, ◌++◌, length, replicate, vec_len, vec_capacity};
+ghost use Rattle.std.specs.List.{slice_range};
 ghost use Rattle.std.proofs.Math.Seq.{paste};
-
-// Writes one part of the log.
-fn fill_part(part: &mut [u8], bytes: &[u8])
-    requires { length part.old ≡ length bytes.now }
-    ensures { part.new ≡ bytes.now }
-{
-    part.copy_from_slice(bytes);
-}
-
-fn write_at(mem: &mut [u8], at: usize, bytes: &[u8])
-    requires { at + length bytes.now ≤ length mem.old }
-    ensures { mem.new ≡ paste mem.old at bytes.now (length bytes.now) }
-{
-    let n = bytes.len();
-    fill_part(&mut mem[at..at + n], bytes);
-}
 
 // Bytes written over what stands at a place.
 pub fn overwrite(log: &mut Vec<u8>, at: usize, bytes: &[u8])
     requires { at + length bytes.now ≤ vec_len log.old }
     ensures items { log.new.items ≡ paste log.old.items at bytes.now (length bytes.now) }
     ensures len { vec_len log.new ≡ vec_len log.old }
+    ensures capacity { vec_capacity log.new ≡ vec_capacity log.old }
 {
-    write_at(log.as_mut_slice(), at, bytes);
+    log[at..at + bytes.len()].copy_from_slice(bytes);
 }
 
-// A name and, right behind it, bytes.
-pub fn write_piece(log: &mut Vec<u8>, at: usize, name: &[u8], bytes: &[u8])
-    requires { at + length name.now + length bytes.now ≤ vec_len log.old }
-    ensures items { log.new.items ≡ paste log.old.items at (name.now ++ bytes.now) (length name.now + length bytes.now) }
-    ensures len { vec_len log.new ≡ vec_len log.old }
+// Bytes written behind all others.
+pub fn append(log: &mut Vec<u8>, bytes: &[u8])
+    requires { vec_len log.old + length bytes.now ≤ vec_capacity log.old }
+    ensures items { log.new.items ≡ log.old.items ++ bytes.now }
+    ensures capacity { vec_capacity log.old ≤ vec_capacity log.new }
 {
-    overwrite(log, at, name);
-    overwrite(log, at + name.len(), bytes);
+    let _ = log.extend_from_slice(bytes);
 }
 
-// Moves bytes down, also where they overlap.
-pub fn slide(mem: &mut [u8], from: usize, to: usize, n: usize)
-    requires down { to ≤ from }
-    requires within { from + n ≤ length mem.old }
-    ensures { mem.new ≡ paste mem.old to (drop from mem.old) n }
+// Bytes copied behind all others, with zeros up to a length.
+pub fn copy_behind(log: &mut Vec<u8>, from: usize, n: usize, len: usize)
+    requires within { from + n ≤ vec_len log.old }
+    requires short { n ≤ len }
+    requires free { vec_len log.old + len ≤ vec_capacity log.old }
+    ensures items { log.new.items ≡ log.old.items ++ (slice_range log.old.items from (from + n) ++ replicate (len - n) 0) }
+    ensures capacity { vec_capacity log.old ≤ vec_capacity log.new }
 {
-    for i in 0..n {
-        mem[to + i] = mem[from + i];
-    }
-}
-
-fn copy_part(mem: &mut [u8], from: usize, to: usize, n: usize)
-    requires up { from + n ≤ to }
-    requires within { to + n ≤ length mem.old }
-    ensures { mem.new ≡ paste mem.old to (drop from mem.old) n }
-{
-    for i in 0..n {
-        mem[to + i] = mem[from + i];
-    }
-}
-
-// Copies bytes to a place behind them.
-pub fn copy_up(log: &mut Vec<u8>, from: usize, to: usize, n: usize)
-    requires up { from + n ≤ to }
-    requires within { to + n ≤ vec_len log.old }
-    ensures items { log.new.items ≡ paste log.old.items to (drop from log.old.items) n }
-    ensures len { vec_len log.new ≡ vec_len log.old }
-{
-    copy_part(log.as_mut_slice(), from, to, n);
+    let end = log.len() + len;
+    let _ = log.extend_from_within(from..from + n);
+    let _ = log.resize(end, 0);
 }

@@ -1,83 +1,73 @@
 // Names looked up among heads by rising names.
-ghost use Rattle.std.specs.Prelude.{◌≡◌, ◌+◌, ◌<◌, ◌≤◌, length};
-ghost use Rattle.table.specs.View.{Sound, Finding, sheets_of, rank, sheet_at};
+ghost use Rattle.std.specs.Prelude.{◌≡◌, ◌+◌, ◌<◌, ◌≤◌, length, slice_index_or};
+ghost use Rattle.table.specs.View.{Sound, Finding, rank, blank_sheet};
 
-use crate::bytes::is_before;
-use crate::heads::{Head, Place};
+use crate::heads::Head;
 
-// The name of the sheet at an index.
-pub fn name_at<'a>(mem: &'a [u8], heads: &[Head], i: usize) -> &'a [u8]
-    requires sound { Sound mem.now heads.now }
-    requires within { i < length heads.now }
-    ensures { result.now ≡ (sheet_at mem.now heads.now i).name }
-{
-    let h = heads[i];
-    let from = h.at;
-    let to = from + h.width;
-    &mem[from..to]
+// Heads by rising names, and the memory in which their pieces lie.
+#[derive(Clone, Copy)]
+pub struct Sheets<'a> {
+    pub mem: &'a [u8],
+    pub heads: &'a [Head],
+    ghost sound: { Sound mem.now heads.now },
 }
 
-// The bytes of the sheet at an index.
-pub fn bytes_at<'a>(mem: &'a [u8], heads: &[Head], i: usize) -> &'a [u8]
-    requires sound { Sound mem.now heads.now }
-    requires within { i < length heads.now }
-    ensures { result.now ≡ (sheet_at mem.now heads.now i).bytes }
-{
-    let h = heads[i];
-    let from = h.at + h.width;
-    let to = from + h.len;
-    &mem[from..to]
-}
+impl<'a> Sheets<'a> {
+    ghost use Rattle.table.specs.Tables.{sheets_in};
 
-// Halves down to a stretch of at most 16 heads: the rank of the name is in it or at its end.
-fn narrow(mem: &[u8], heads: &[Head], name: &[u8]) -> (usize, usize)
-    requires { Sound mem.now heads.now }
-    ensures low { result.0 ≤ rank name.now (sheets_of mem.now heads.now) }
-    ensures high { rank name.now (sheets_of mem.now heads.now) ≤ result.1 }
-    ensures within { result.1 ≤ length heads.now }
-    ensures short { result.1 ≤ result.0 + 16 }
-{
-    let mut lo = 0;
-    let mut hi = heads.len();
-    while hi - lo > 16 {
-        let mid = lo + (hi - lo) / 2;
-        if is_before(name_at(mem, heads, mid), name) {
-            lo = mid + 1;
-        } else {
-            hi = mid;
-        }
+    // The name of the sheet at an index.
+    fn name(&self, i: usize) -> &'a [u8]
+        requires { i < length self.now.heads.now }
+        ensures { result.now ≡ (slice_index_or (sheets_in self.now) i blank_sheet).name }
+    {
+        self.heads[i].name(self.mem)
     }
-    (lo, hi)
-}
 
-// The index of the first name that does not come before `name`.
-fn rank_of(mem: &[u8], heads: &[Head], name: &[u8]) -> usize
-    requires { Sound mem.now heads.now }
-    ensures { result ≡ rank name.now (sheets_of mem.now heads.now) }
-{
-    let (lo, hi) = narrow(mem, heads, name);
-    let mut index = hi;
-    'names: for i in lo..hi {
-        if !is_before(name_at(mem, heads, i), name) {
-            index = i;
-            break 'names;
+    // Halves down to a stretch of at most 16 heads: the rank of the name is in it or at its end.
+    // (`partition_point` halves down to one head: it would leave `rank_of` no names to walk.)
+    fn narrow(&self, name: &[u8]) -> (usize, usize)
+        ensures low { result.0 ≤ rank name.now (sheets_in self.now) }
+        ensures high { rank name.now (sheets_in self.now) ≤ result.1 }
+        ensures within { result.1 ≤ length self.now.heads.now }
+        ensures short { result.1 ≤ result.0 + 16 }
+    {
+        let mut lo = 0;
+        let mut hi = self.heads.len();
+        while hi - lo > 16 {
+            let mid = lo + (hi - lo) / 2;
+            if self.name(mid) < name {
+                lo = mid + 1;
+            } else {
+                hi = mid;
+            }
         }
+        (lo, hi)
     }
-    index
-}
 
-// Where a name stands, or would: what is found there, and what a change of a sheet of that name does.
-pub fn seek(mem: &[u8], heads: &[Head], name: &[u8]) -> Place
-    requires { Sound mem.now heads.now }
-    ensures { Finding (sheets_of mem.now heads.now) name.now result.index result.found }
-{
-    let index = rank_of(mem, heads, name);
-    if index < heads.len() && !is_before(name, name_at(mem, heads, index)) {
-        Place { index, found: true }
-    } else {
-        Place {
-            index,
-            found: false,
+    // The index of the first name that does not come before `name`.
+    fn rank_of(&self, name: &[u8]) -> usize
+        ensures { result ≡ rank name.now (sheets_in self.now) }
+    {
+        let (lo, hi) = self.narrow(name);
+        let mut index = hi;
+        // names are walked by a labelled loop, left at the first that is after: docs/DECISIONS.md, "Code forms"
+        'names: for i in lo..hi {
+            if name <= self.name(i) {
+                index = i;
+                break 'names;
+            }
+        }
+        index
+    }
+
+    // Where a name stands, or else where it would: what is found there, and what a change of a sheet of that name does.
+    pub fn seek(&self, name: &[u8]) -> Result<usize, usize>
+        ensures { Finding (sheets_in self.now) name.now result }
+    {
+        let index = self.rank_of(name);
+        match self.heads.get(index) {
+            Some(head) if head.name(self.mem) == name => Ok(index),
+            _ => Err(index),
         }
     }
 }

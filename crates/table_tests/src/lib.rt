@@ -7,35 +7,27 @@ mod tests {
     use codec::call::Expect;
     use ids::{DeskId, Edition};
     use std::test::Fail;
-    use table::{Change, Changed, Query, Reading, Table};
+    use table::{Change, Changed, Outcome, Query, Reading, Table};
 
-    // 1000 and the edition, 0 for yes, or the number of the refusal
-    fn told(r: Changed) -> u64 {
-        match r {
-            Changed::Yes => 0,
-            Changed::Edition(e) => e.0.saturating_add(1000),
-            Changed::No(Refusal::OutOfRange) => 1,
-            Changed::No(Refusal::Missing) => 2,
-            Changed::No(Refusal::OtherEdition) => 4,
-            Changed::No(Refusal::NoRoom) => 9,
-            Changed::No(Refusal::NotBuilt) => 12,
-            Changed::No(_) => 99,
-        }
-    }
-
-    fn put<'x>(t: &mut Table, desk: u8, name: &'x [u8], expect: Expect, bytes: &'x [u8]) -> u64 {
-        told(t.change(
+    fn put<'x>(
+        t: &mut Table,
+        desk: u8,
+        name: &'x [u8],
+        expect: Expect,
+        bytes: &'x [u8],
+    ) -> Outcome {
+        t.change(
             DeskId(desk),
             Change::Put {
                 name,
                 expect,
                 bytes,
             },
-        ))
+        )
     }
 
-    fn patch<'x>(t: &mut Table, desk: u8, name: &'x [u8], at: u32, bytes: &'x [u8]) -> u64 {
-        told(t.change(
+    fn patch<'x>(t: &mut Table, desk: u8, name: &'x [u8], at: u32, bytes: &'x [u8]) -> Outcome {
+        t.change(
             DeskId(desk),
             Change::Patch {
                 name,
@@ -43,46 +35,48 @@ mod tests {
                 expect: Expect::Any,
                 bytes,
             },
-        ))
+        )
     }
 
-    fn take(t: &mut Table, desk: u8, name: &[u8]) -> u64 {
-        told(t.change(DeskId(desk), Change::Take { name, alone: false }))
+    fn take(t: &mut Table, desk: u8, name: &[u8]) -> Outcome {
+        t.change(DeskId(desk), Change::Take { name, alone: false })
     }
 
-    // the edition and the whole length, and whether the first bytes are those given
-    fn read(t: &Table, name: &[u8], bytes: &[u8]) -> (u64, u32, bool) {
-        match t.read(
-            DeskId(1),
-            Query::Read {
-                name,
-                start: 0,
-                most: 1048576,
-            },
-        ) {
-            Reading::Stretch {
-                edition,
-                whole,
-                bytes: found,
-            } => (edition.0, whole, found == bytes),
-            _ => (0, 0, false),
+    fn edition(n: u64) -> Outcome {
+        Ok(Changed::Edition(Edition(n)))
+    }
+
+    // Whether a sheet is read with this edition, this whole length and these bytes.
+    fn reads(t: &Table, name: &[u8], edition: u64, whole: u32, bytes: &[u8]) -> bool {
+        let query = Query::Read {
+            name,
+            start: 0,
+            most: 1048576,
+        };
+        match t.read(DeskId(1), query) {
+            Ok(
+                Reading::Stretch {
+                    edition: e,
+                    whole: n,
+                    bytes: found,
+                },
+            ) => e == Edition(edition) && n == whole && found == bytes,
+            _ => false,
         }
     }
 
     #[test]
     fn worked_cases(rt: HostRuntime) -> Result<(), Fail> {
         let mut t = Table::begin(rt.alloc(), 65536)?;
-        assert_eq!(rt;
-            put(&mut t, 1, b"a", Expect::Just(Edition(0)), b"abc"),
-            1001
-        );
-        assert_eq!(rt; patch(&mut t, 2, b"a", 3, b"de"), 1002);
-        assert_eq!(rt; read(&t, b"a", b"abcde"), (2, 5, true));
-        assert_eq!(rt; take(&mut t, 1, b"a"), 12);
-        assert_eq!(rt; patch(&mut t, 1, b"a", 6, b"f"), 1);
-        assert_eq!(rt; put(&mut t, 1, b"k", Expect::Just(Edition(0)), b"1"), 1003);
-        assert_eq!(rt; put(&mut t, 2, b"k", Expect::Just(Edition(0)), b"2"), 4);
-        assert_eq!(rt; put(&mut t, 2, b"", Expect::Any, b"2"), 1);
+        let new = Expect::Just(Edition(0));
+        assert!(rt; put(&mut t, 1, b"a", new, b"abc") == edition(1));
+        assert!(rt; patch(&mut t, 2, b"a", 3, b"de") == edition(2));
+        assert!(rt; reads(&t, b"a", 2, 5, b"abcde"));
+        assert!(rt; take(&mut t, 1, b"a") == Err(Refusal::NotBuilt));
+        assert!(rt; patch(&mut t, 1, b"a", 6, b"f") == Err(Refusal::OutOfRange));
+        assert!(rt; put(&mut t, 1, b"k", new, b"1") == edition(3));
+        assert!(rt; put(&mut t, 2, b"k", new, b"2") == Err(Refusal::OtherEdition));
+        assert!(rt; put(&mut t, 2, b"", Expect::Any, b"2") == Err(Refusal::OutOfRange));
         Ok(())
     }
 
@@ -92,19 +86,19 @@ mod tests {
         let mut t = Table::begin(rt.alloc(), 65536)?;
         let bytes = [7u8; 8192];
         for i in 0..8u8 {
-            assert_eq!(rt;
-                put(&mut t, 1, &[i], Expect::Any, &bytes[..3584]),
-                1001 + u64::from(i)
+            assert!(rt;
+                put(&mut t, 1, &[i], Expect::Any, &bytes[..3584]) == edition(1 + u64::from(i))
             );
         }
-        assert_eq!(rt; put(&mut t, 1, b"x", Expect::Any, b""), 9);
-        assert_eq!(rt; put(&mut t, 1, &[3], Expect::Any, &bytes[..2584]), 1009);
-        assert_eq!(rt; put(&mut t, 1, &[5], Expect::Any, &bytes[..4585]), 9);
-        assert_eq!(rt; patch(&mut t, 1, &[5], 3584, &bytes[..1001]), 9);
-        assert_eq!(rt; patch(&mut t, 1, &[5], 3584, &bytes[..1000]), 1010);
-        assert_eq!(rt; read(&t, &[5], &bytes[..4584]), (10, 4584, true));
-        assert_eq!(rt; read(&t, &[3], &bytes[..2584]), (9, 2584, true));
-        assert_eq!(rt; read(&t, &[7], &bytes[..3584]), (8, 3584, true));
+        let no_room = Err(Refusal::NoRoom);
+        assert!(rt; put(&mut t, 1, b"x", Expect::Any, b"") == no_room);
+        assert!(rt; put(&mut t, 1, &[3], Expect::Any, &bytes[..2584]) == edition(9));
+        assert!(rt; put(&mut t, 1, &[5], Expect::Any, &bytes[..4585]) == no_room);
+        assert!(rt; patch(&mut t, 1, &[5], 3584, &bytes[..1001]) == no_room);
+        assert!(rt; patch(&mut t, 1, &[5], 3584, &bytes[..1000]) == edition(10));
+        assert!(rt; reads(&t, &[5], 10, 4584, &bytes[..4584]));
+        assert!(rt; reads(&t, &[3], 9, 2584, &bytes[..2584]));
+        assert!(rt; reads(&t, &[7], 8, 3584, &bytes[..3584]));
         Ok(())
     }
 }

@@ -1,7 +1,4 @@
 // Names in order, walked without copying.
-ghost use Rattle.std.specs.Prelude.{◌≡◌};
-ghost use Rattle.table.specs.Tables.{listed, gives};
-
 use crate::tables::Table;
 
 // So many names, from an index on.
@@ -12,20 +9,23 @@ pub struct Listing<'a> {
     pub(crate) left: usize,
 }
 
-impl<'a> Listing<'a> {
+impl<'a> Iterator for Listing<'a> {
+    type Item = &'a [u8];
+
+    ghost use Rattle.std.specs.Iterator.{YieldsFirstRef, item_count};
+    ghost use Rattle.table.specs.Tables.{listed};
+
+    ghost next_gives = { YieldsFirstRef listed };
+
+    ghost remaining = { item_count listed };
+
     // The next name, if there is one.
-    pub fn next(&mut self) -> Option<&'a [u8]>
-        ensures { listed self.old ≡ gives result (listed self.new) }
-    {
+    fn next(&mut self) -> Option<&'a [u8]> {
         if self.left == 0 {
             return None;
         }
-        let table = self.table;
-        let i = self.next;
-        let Some(name) = table.name(i) else {
-            return None;
-        };
-        self.next = i + 1;
+        let name = self.table.name(self.next)?;
+        self.next += 1;
         self.left -= 1;
         Some(name)
     }

@@ -1,5 +1,5 @@
 use Rattle.table.proofs.Packs.{Sliding}
 use Rattle.table.proofs.compact.pack.Given as goal
 
-abbrev pub invariant-loop-k : goal.invariant-loop-k
-invariant-loop-k l = Sliding l.initial.mem l.initial.heads l.spots l.mem l.heads l.k l.to l.edge
+abbrev pub invariant-loop-i : goal.invariant-loop-i
+invariant-loop-i l = Sliding l.initial.mem l.initial.heads l.spots l.mem l.heads l.i-index l.to l.edge

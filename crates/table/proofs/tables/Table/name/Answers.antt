@@ -1,21 +1,14 @@
-use Rattle.std.proofs.Common.{◌≡◌, vec_items, sym, arith}
-use Rattle.table.specs.View.{Sound, sheet_at}
-use Rattle.table.proofs.Fits.{count}
+use Rattle.std.proofs.Common.{◌≡◌, ℕ, ◌<◌, true, List, length, get_or, sym, ap, ◌∙◌, subst}
+use Rattle.table.specs.declared.heads.Head.{Head}
+use Rattle.table.specs.View.{below, blank_head}
 use Rattle.table.proofs.Parts.{moved2}
-use Rattle.table.proofs.Holds.{sound}
+use Rattle.table.proofs.Holds.{indexed, in_log}
 use Rattle.table.proofs.tables.Table.name.Goals as goal
 
-pub name_at-requires : goal.name_at-requires
-name_at-requires c = record { sound = moved2 Sound (sym c.as_slice.ensures.value) (sym c.as_slice-heads.ensures.value) (sound c.args.self.now); within = c.if-i-heads.true }
-
-pub returns-then-i-heads : goal.returns-then-i-heads
-returns-then-i-heads c =
-    let t = c.args.self.now in (
-      omega (arith, c.if-i-heads.true, c.as_slice-heads.ensures.len, t.heads.ok.0, count (vec_items t.log) (vec_items t.heads)),
-      moved2 (λ m hs. c.name_at.result.now ≡ (sheet_at m hs c.args.i).name) c.as_slice.ensures.value c.as_slice-heads.ensures.value c.name_at.ensures,
-    )
-
-pub returns-else-i-heads : goal.returns-else-i-heads
-returns-else-i-heads c =
+pub name-requires : goal.name-requires
+name-requires c =
     let t = c.args.self.now in
-    omega (arith, c.if-i-heads.false, c.as_slice-heads.ensures.len, t.heads.ok.0, count (vec_items t.log) (vec_items t.heads))
+    let g = c.in_ok-head.ensures.lookup.3 in
+    let h = indexed t c.args.i (subst (λ (hs : List Head). c.args.i < length hs) c.deref.ensures.value g.0) in
+    let e = g.1 blank_head ∙ ap (λ (hs : List Head). get_or hs c.args.i blank_head) c.deref.ensures.value in
+    moved2 (λ (m : List ℕ) (x : Head). below (length m) x ≡ true) (sym c.as_slice.ensures.value) (sym e) (in_log t c.args.i h)

@@ -1,6 +1,0 @@
-use Rattle.std.proofs.Common.{◌≡◌, ◌≤◌}
-use Rattle.table.specs.View.{rank, sheets_of}
-use Rattle.table.proofs.lookup.rank_of.Given as goal
-
-abbrev pub invariant-names : goal.invariant-names
-invariant-names l = (l.index ≡ l.hi) × (l.i ≤ rank l.name (sheets_of l.mem l.heads))
