@@ -1,5 +1,5 @@
 pub mod Model
 pub mod Ticks
-pub mod Sealed
+pub mod Fronts
 pub mod Heard
 pub mod Bytewise

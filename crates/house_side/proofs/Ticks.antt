@@ -1,6 +1,6 @@
 -- Desks that have lapsed: one more, and the model's tick as the list of them.
-use Rattle.std.proofs.Common.{◌≡◌, ℕ, zero, suc, ◌+◌, ◌-◌, ◌<◌, ◌≤◌, Bool, true, false, cond, ◌&&◌, List, [], ◌∷◌, ◌++◌, map, length, get_or, drop, sym, refl, ap, ◌∙◌, arith, lt-ltb}
-use Rattle.std.proofs.lemmas.List.{drop_more, drop_all, map-append}
+use Rattle.std.proofs.Common.{◌≡◌, ℕ, zero, suc, ◌+◌, ◌-◌, ◌<◌, ◌≤◌, Bool, true, false, cond, ◌&&◌, List, [], ◌∷◌, ◌++◌, map, sym, refl, ap, ◌∙◌, arith, lt-ltb, append-nil}
+use Rattle.std.proofs.lemmas.List.{map-append}
 use Rattle.promise.specs.Machine.{Machine}
 use Rattle.promise.specs.Sheets.{State}
 use Rattle.promise.specs.Desks.{Does, Lapse}
@@ -53,48 +53,34 @@ pub lapses_of : (ds : List DeskId) → map lapse_of ds ≡ map saying (map (λ (
 lapses_of [] = refl
 lapses_of (d ∷ ds) = ap (λ (l : List (Does Bytes)). Lapse d.0 ∷ l) (lapses_of ds)
 
--- the hands of the one before are emptied next
-pub emptied_before : (ds : List DeskId) (k : ℕ) (d : DeskId) (s s₁ s₂ : State) → 0 < k → k ≤ length ds →
-    s₁ ≡ emptied (map number (drop k ds)) s → s₂ ≡ leaves (get_or ds (k - 1) d).0 s₁ → s₂ ≡ emptied (map number (drop (k - 1) ds)) s
+-- the hands of the last one are emptied first
+pub emptied_last : (ds : List DeskId) (d : DeskId) (s : State) → emptied (map number (ds ++ d ∷ [])) s ≡ emptied (map number ds) (leaves d.0 s)
 unfolding emptied
-emptied_before ds k d s s₁ s₂ above within e₁ e₂ =
-    let at : k - 1 < length ds = omega arith in
-    let one_on : k - 1 + 1 ≡ k = omega arith in
-    let cut : drop (k - 1) ds ≡ get_or ds (k - 1) d ∷ drop k ds = drop_more ds (k - 1) d at ∙ ap (λ (n : ℕ). get_or ds (k - 1) d ∷ drop n ds) one_on in
-    e₂ ∙ (ap (λ (x : State). leaves (get_or ds (k - 1) d).0 x) e₁ ∙ sym (ap (λ (xs : List DeskId). emptied (map number xs) s) cut))
-
-pub emptied_none : (ds : List DeskId) (s : State) → s ≡ emptied (map number (drop (length ds) ds)) s
-unfolding emptied
-emptied_none ds s = sym (ap (λ (xs : List DeskId). emptied (map number xs) s) (drop_all (length ds) ds (omega arith)))
+emptied_last [] d s = refl
+emptied_last (x ∷ ds) d s = ap (λ (v : State). leaves x.0 v) (emptied_last ds d s)
 
 -- a desk more that has lapsed, or not
-pub silent_next : {m : Machine} (t : ℕ) (h : House m) (i : ℕ) (xs : List DeskId) (d : DeskId) → i < 63 → map number xs ≡ silent_from t h 1 i → d.0 ≡ i + 1 →
-    map number (xs ++ cond (is_desk (i + 1) && is_silent t h (i + 1)) (d ∷ []) []) ≡ silent_from t h 1 (i + 1)
-silent_next t h i xs d below e ed =
-    let b : Bool = is_desk (i + 1) && is_silent t h (i + 1) in
-    let joined : map number (xs ++ cond b (d ∷ []) []) ≡ map number xs ++ map number (cond b (d ∷ []) []) = map-append number xs (cond b (d ∷ []) []) in
-    let more : silent_from t h 1 (suc i) ≡ silent_from t h 1 i ++ one (is_silent t h (1 + i)) (1 + i) = silent_more t h 1 i in
-    let same : one b (i + 1) ≡ one (is_silent t h (1 + i)) (1 + i) = ap (λ (v : Bool). one (v && is_silent t h (i + 1)) (i + 1)) desk ∙ one_at t h (i + 1) (1 + i) (omega arith) in
-    let count : suc i ≡ i + 1 = omega arith in
-    joined ∙ ((λ z. e z ++ (last_of b ∙ same) z) ∙ (sym more ∙ ap (λ (n : ℕ). silent_from t h 1 n) count))
+pub silent_next : {m : Machine} (t : ℕ) (h : House m) (n : ℕ) (b : Bool) (xs : List DeskId) (d : DeskId) → 1 ≤ n → n < 64 → d.0 ≡ n → map number xs ≡ silent_from t h 1 (n - 1) →
+    b ≡ (is_desk n && is_silent t h n) → map number (cond b (xs ++ d ∷ []) xs) ≡ silent_from t h 1 (n + 1 - 1)
+silent_next t h n b xs d above below ed e eb =
+    let more : silent_from t h 1 (suc (n - 1)) ≡ silent_from t h 1 (n - 1) ++ one (is_silent t h (1 + (n - 1))) (1 + (n - 1)) = silent_more t h 1 (n - 1) in
+    let at : 1 + (n - 1) ≡ n = omega arith in
+    let count : suc (n - 1) ≡ n + 1 - 1 = omega arith in
+    let silent : b ≡ is_silent t h n = eb ∙ ap (λ (v : Bool). v && is_silent t h n) desk in
+    joined b ∙ ((λ z. e z ++ one (silent z) n) ∙ (ap (λ (l : List ℕ). silent_from t h 1 (n - 1) ++ l) (sym (one_at t h _ _ at)) ∙ (sym more ∙ ap (λ (k : ℕ). silent_from t h 1 k) count)))
   where
-    desk : is_desk (i + 1) ≡ true
-    desk = λ z. lt-ltb 0 (i + 1) (omega arith) z && lt-ltb (i + 1) 64 (omega arith) z
+    desk : is_desk n ≡ true
+    desk = λ z. lt-ltb 0 n (omega arith) z && lt-ltb n 64 (omega arith) z
 
-    last_of : (v : Bool) → map number (cond v (d ∷ []) []) ≡ one v (i + 1)
-    last_of true = ap (λ (n : ℕ). n ∷ []) ed
-    last_of false = refl
-
-none_before : {X : Type 0} (xs ys : List X) → xs ++ ys ≡ [] → xs ≡ []
-none_before [] ys e = refl
-none_before (x ∷ xs) ys e = cc
+    joined : (v : Bool) → map number (cond v (xs ++ d ∷ []) xs) ≡ map number xs ++ one v n
+    joined true = map-append number xs (d ∷ []) ∙ ap (λ (k : ℕ). map number xs ++ k ∷ []) ed
+    joined false = sym (append-nil (map number xs))
 
 -- the tick of the house
-pub tick_is : (room t : ℕ) (s s₁ : State) (k : Known) (o : List (Does Bytes)) (ds es fs : List DeskId) → o ++ map lapse_of es ≡ [] →
-    map number ds ≡ silent_from t (house_of room s k) 1 63 → fs ≡ ds → s₁ ≡ emptied (map number fs) s → turn_of room s₁ k (o ++ map lapse_of ds) ≡ spoken (house_tick t (house_of room s k))
-tick_is room t s s₁ k o ds es fs none silent same left =
-    let gone : o ≡ [] = none_before o (map lapse_of es) none in
-    let said : o ++ map lapse_of ds ≡ map saying (map (λ (i : ℕ). Lapse i) (silent_from t (house_of room s k) 1 63)) =
-    (λ z. gone z ++ map lapse_of ds) ∙ (lapses_of ds ∙ ap (λ (is : List ℕ). map saying (map (λ (i : ℕ). Lapse i) is)) silent) in
+pub tick_is : (room t : ℕ) (s s₁ : State) (k : Known) (o : List (Does Bytes)) (ds es : List DeskId) → o ≡ map lapse_of ds → map number ds ≡ silent_from t (house_of room s k) 1 63 → es ≡ ds →
+    s₁ ≡ emptied (map number es) s → turn_of room s₁ k o ≡ spoken (house_tick t (house_of room s k))
+tick_is room t s s₁ k o ds es says silent same left =
+    let said : o ≡ map saying (map (λ (i : ℕ). Lapse i) (silent_from t (house_of room s k) 1 63)) =
+    says ∙ (lapses_of ds ∙ ap (λ (is : List ℕ). map saying (map (λ (i : ℕ). Lapse i) is)) silent) in
     let kept : s₁ ≡ emptied (silent_from t (house_of room s k) 1 63) s = left ∙ ((λ z. emptied (map number (same z)) s) ∙ ap (λ (is : List ℕ). emptied is s) silent) in
     (λ z. turn_of room (kept z) k (said z)) ∙ ap (λ (x : HouseTurn (machine room)). spoken x) (sym (lapses_is room t 1 63 (house_of room s k)))

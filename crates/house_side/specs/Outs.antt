@@ -14,4 +14,4 @@ abbrev pub lapse_of : DeskId → Does Bytes
 lapse_of d = Lapse d.0
 
 abbrev pub outs_of : Outbox → List (Does Bytes)
-outs_of o = message_of o.to (vec_items o.message) ++ map lapse_of (vec_items o.lapsed)
+outs_of o = message_of o.to (vec_items o.message.bytes) ++ map lapse_of (vec_items o.lapsed)

@@ -6,6 +6,7 @@ ghost use Rattle.house_side.specs.Tables.{machine};
 ghost use Rattle.house_side.specs.Outs.{outs_of};
 ghost use Rattle.house_side.specs.Minds.{mind_of};
 
+use crate::draft::Draft;
 use crate::house::House;
 use crate::outbox::Outbox;
 use crate::store::Store;
@@ -13,20 +14,27 @@ use ids::Clock;
 use sessions::sessions::Sessions;
 use std::alloc::{AllocError, Global};
 
+const LONGEST_MESSAGE: usize = 1_048_631;
+
+// Any desk may lapse at a tick.
+const DESKS: usize = 63;
+
 impl<S: Store + Drop> House<S> {
     // With the table that it keeps, from then on. All other memory is reserved here: two vectors, for the longest message and for 63 desks.
     pub fn begin(heap: Global, table: S, clock: Clock) -> Result<House<S>, AllocError>
-        ensures { IfOk result (λ h. (h.table ≡ table) × (outs_of h.out ≡ []) × (S.Store.state table ≡ blank → mind_of S.Store.room S.Store.state h ≡ house_begins (machine (S.Store.room h.table)) clock.0)) }
+        ensures table { IfOk result (λ h. h.table ≡ table) }
+        ensures silent { IfOk result (λ h. outs_of h.out ≡ []) }
+        ensures begins { IfOk result (λ h. S.Store.state table ≡ blank → mind_of S.Store.room S.Store.state h ≡ house_begins (machine (S.Store.room h.table)) clock.0) }
     {
-        let message = Vec::with_capacity(heap, 1048631)?;
-        let lapsed = Vec::with_capacity(heap, 63)?;
+        let bytes = Vec::with_capacity(heap, LONGEST_MESSAGE)?;
+        let lapsed = Vec::with_capacity(heap, DESKS)?;
         let sessions = Sessions::begin(clock);
         Ok(House {
             sessions,
             table,
             out: Outbox {
                 to: None,
-                message,
+                message: Draft { bytes },
                 lapsed,
             },
         })

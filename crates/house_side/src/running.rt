@@ -18,7 +18,6 @@ impl<S: Store> House<S> {
         ensures turn { (z : Settings) → byte_turn z (comes_of event.entry) clock.0 (of_house (mind_of S.Store.room S.Store.state self.old)) ≡ minded (turned_to S.Store.room S.Store.state self.old self.new) }
         ensures room { S.Store.room self.new.table ≡ S.Store.room self.old.table }
     {
-        self.out.clear();
         match event {
             Event::Message { from, bytes } => self.receive(from, bytes, clock),
             Event::Tick => self.tick(clock),
@@ -35,12 +34,12 @@ impl<S: Store> House<S> {
 
     // The message that the last turn sends, if it sends one.
     pub fn message(&self) -> Option<Sent<'_>>
-        ensures { sent_of result ≡ message_of self.now.out.to self.now.out.message.items }
+        ensures { sent_of result ≡ message_of self.now.out.to self.now.out.message.bytes.items }
     {
         let to = self.out.to?;
         Some(Sent {
             to,
-            bytes: self.out.message.as_slice(),
+            bytes: self.out.message.bytes.as_slice(),
         })
     }
 

@@ -2,10 +2,10 @@
 ghost use Rattle.std.specs.Prelude.{◌≡◌, ℕ, ◌+◌, ◌<◌, ◌≤◌, true, false, ◌++◌, vec_len, vec_capacity};
 ghost use Rattle.promise.specs.Sheets.{State};
 ghost use Rattle.house_side.specs.Tables.{reads, answer_to, after, leaves, in_hand, longest_answer};
-ghost use Rattle.sessions.specs.View.{kept_bytes};
+ghost use Rattle.sessions.specs.View.{outcome_bytes};
 
+use codec::answer::Outcome;
 use ids::DeskId;
-use sessions::kept::Kept;
 
 pub trait Store {
     ghost state: { Self → State };
@@ -25,9 +25,9 @@ pub trait Store {
         ensures cap { vec_capacity out.new ≡ vec_capacity out.old };
 
     // A call that may change the table.
-    fn change(&mut self, desk: DeskId, call: &[u8]) -> Kept
+    fn change(&mut self, desk: DeskId, call: &[u8]) -> Outcome
         requires { reads call.now ≡ false }
-        ensures answer { kept_bytes result ≡ answer_to (room self.old) desk.0 call.now (state self.old) }
+        ensures answer { outcome_bytes result ≡ answer_to (room self.old) desk.0 call.now (state self.old) }
         ensures state { state self.new ≡ after (room self.old) desk.0 call.now (state self.old) }
         ensures room { room self.new ≡ room self.old };
 

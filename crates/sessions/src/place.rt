@@ -1,5 +1,5 @@
 // The place of a desk among those that the house knows.
-ghost use Rattle.std.specs.Prelude.{◌≡◌, ◌<◌, true, false, MatchOption};
+ghost use Rattle.std.specs.Prelude.{◌≡◌, ◌<◌, true, false, MatchResult};
 ghost use Rattle.sessions.specs.Desks.{is_desk};
 
 use ids::DeskId;
@@ -12,18 +12,25 @@ pub struct Place {
     ghost below: { desk.0 < 64 },
 }
 
-impl Place {
-    // None where there is no such desk.
-    pub fn of(desk: DeskId) -> Option<Place>
-        ensures { MatchOption result (is_desk desk.0 ≡ false) (λ p. (is_desk desk.0 ≡ true) × (p.desk ≡ desk)) }
-    {
-        if 0 < desk.0 && desk.0 < 64 {
-            Some(Place { desk })
+// There is no desk of this number.
+#[derive(Clone, Copy)]
+pub struct NoSuchDesk(pub DeskId);
+
+impl TryFrom<DeskId> for Place {
+    type Error = NoSuchDesk;
+
+    ghost try_from_gives = { λ d r. MatchResult r (λ p. (is_desk d.0 ≡ true) × (p.desk ≡ d)) (λ e. (is_desk d.0 ≡ false) × (e.0 ≡ d)) };
+
+    fn try_from(desk: DeskId) -> Result<Place, NoSuchDesk> {
+        if (1..64).contains(&desk.0) {
+            Ok(Place { desk })
         } else {
-            None
+            Err(NoSuchDesk(desk))
         }
     }
+}
 
+impl Place {
     pub fn desk(self) -> DeskId
         ensures { result ≡ self.desk }
     {
@@ -34,6 +41,6 @@ impl Place {
         ensures value { result ≡ self.desk.0 }
         ensures bound { result < 64 }
     {
-        self.desk.0 as usize
+        usize::from(self.desk.0)
     }
 }

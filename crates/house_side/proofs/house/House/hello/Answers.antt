@@ -9,5 +9,5 @@ pub returns : goal.returns
 returns g c = record {
   turn = hello_spoken _ _ _ _ _ _ _ _ c.hello-session.ensures.known c.hello-session.ensures.session
       (c.welcome.ensures ∙ ap (λ (d : DeskId). To d.0 (encode_msg (Welcome c.args.nonce.0 c.hello-session.result.0)) ∷ []) c.desk.ensures);
-  room = refl;
+  room_stays = refl;
 }

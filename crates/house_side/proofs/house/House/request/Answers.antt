@@ -4,10 +4,9 @@ use Rattle.house_side.proofs.house.House.request.Goals as goal
 
 pub returns-then-request-lt8 : goal.returns-then-request-lt8
 returns-then-request-lt8 g c = record {
-  turn = request_in_slot _ _ _ _ _ _ _ _ (lt-ltb _ _ c.if-request-lt8.true) _ _ _ _ _ _
-      c.take_up.ensures.room c.take_up.ensures.table c.take_up.ensures.known c.serve.ensures.table c.serve.ensures.known c.serve.ensures.outs;
-  room = c.serve.ensures.room ∙ c.take_up.ensures.room;
+  turn = request_in_slot _ _ _ _ _ _ _ _ _ _ _ _ _ _ (lt-ltb _ _ c.if-request-lt8.true) c.take_up.ensures.room c.take_up.ensures.mind c.serve.ensures.turn;
+  room_stays = c.serve.ensures.room_stays ∙ c.take_up.ensures.room;
 }
 
 pub returns-else-request-lt8 : goal.returns-else-request-lt8
-returns-else-request-lt8 g c = record { turn = request_in_none _ _ _ _ _ _ _ _ _ c.requires (le-ltb _ _ c.if-request-lt8.false); room = refl }
+returns-else-request-lt8 g c = record { turn = request_in_none _ _ _ _ _ _ _ _ _ c.clear.ensures (le-ltb _ _ c.if-request-lt8.false); room_stays = refl }
