@@ -7,7 +7,7 @@ use Rattle.codec.specs.Sum.{sum_of}
 use Rattle.codec.specs.Messages.{Msg, Hello, Welcome, Request, Response, Alive, hello_in, welcome_in, request_in, response_in, alive_in, kind_in, body_in, lengthed_msg_in, decode_msg}
 
 never : {A : Type 0} (x : A) → None ≡ Some x → ⊥
-never x e = let z : ◌≡◌ {A = ℕ} 0 1 = cc in omega arith
+never x e = cc
 
 number_by : (w : ℕ) (b : Bytes) (f : ℕ × Bytes → Option Msg) (x : Msg) (y : ℕ × Bytes) (v : Bool) → ltb (length b) w ≡ v → bind (cond v None (Some y)) f ≡ Some x → (w ≤ length b) × (f y ≡ Some x)
 number_by w b f x y true q e = absurd (never x e)
@@ -37,19 +37,19 @@ end_not false x y n e = never y e
 no_hello : (b : Bytes) (s j q g : ℕ) (a : Bytes) → hello_in b ≡ Some (Response s j q g a) → ⊥
 no_hello b s j q g a e =
     let r = behind 8 b (λ c. ended (Hello c.0) c.1) (Response s j q g a) e in
-    end_not _ (Hello (number (take 8 b))) (Response s j q g a) (λ i. let z : ◌≡◌ {A = ℕ} 0 1 = cc in omega arith) r.1
+    end_not _ (Hello (number (take 8 b))) (Response s j q g a) (λ i. cc) r.1
 
 no_alive : (b : Bytes) (s j q g : ℕ) (a : Bytes) → alive_in b ≡ Some (Response s j q g a) → ⊥
 no_alive b s j q g a e =
     let r = behind 8 b (λ c. ended (Alive c.0) c.1) (Response s j q g a) e in
-    end_not _ (Alive (number (take 8 b))) (Response s j q g a) (λ i. let z : ◌≡◌ {A = ℕ} 0 1 = cc in omega arith) r.1
+    end_not _ (Alive (number (take 8 b))) (Response s j q g a) (λ i. cc) r.1
 
 no_welcome : (b : Bytes) (s j q g : ℕ) (a : Bytes) → welcome_in b ≡ Some (Response s j q g a) → ⊥
 no_welcome b s j q g a e =
     let x : Msg = Response s j q g a in
     let r = behind 8 b (λ c. bind (number_in 8 c.1) (λ n. ended (Welcome c.0 n.0) n.1)) x e in
     let r2 = behind 8 (drop 8 b) (λ n. ended (Welcome (number (take 8 b)) n.0) n.1) x r.1 in
-    end_not _ (Welcome (number (take 8 b)) (number (take 8 (drop 8 b)))) x (λ i. let z : ◌≡◌ {A = ℕ} 0 1 = cc in omega arith) r2.1
+    end_not _ (Welcome (number (take 8 b)) (number (take 8 (drop 8 b)))) x (λ i. cc) r2.1
 
 no_request : (b : Bytes) (s j q g : ℕ) (a : Bytes) → request_in b ≡ Some (Response s j q g a) → ⊥
 no_request b s j q g a e =
@@ -58,7 +58,7 @@ no_request b s j q g a e =
     let r2 = behind 1 (drop 8 b) (λ j. bind (number_in 8 j.1) (λ q. Some (Request (number (take 8 b)) j.0 q.0 q.1))) x r.1 in
     let r3 = behind 8 (drop 1 (drop 8 b)) (λ q. Some (Request (number (take 8 b)) (number (take 1 (drop 8 b))) q.0 q.1)) x r2.1 in
     let i : Some (Request (number (take 8 b)) (number (take 1 (drop 8 b))) (number (take 8 (drop 1 (drop 8 b)))) (drop 8 (drop 1 (drop 8 b)))) ≡ Some x = r3.1 in
-    let z : ◌≡◌ {A = ℕ} 0 1 = cc in omega arith
+    cc
 
 -- the answer is all that stands behind four numbers
 in_response : (b : Bytes) (s j q g : ℕ) (a : Bytes) → response_in b ≡ Some (Response s j q g a) → (25 ≤ length b) × (a ≡ drop 25 b)

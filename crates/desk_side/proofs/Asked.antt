@@ -1,6 +1,8 @@
 -- What is asked for, and what the memory then holds, as the model says it.
-use Rattle.std.proofs.Common.{◌≡◌, ℕ, suc, ◌+◌, ◌<◌, ◌≤◌, Bool, true, false, cond, List, [], ◌∷◌, ◌++◌, map, length, get_or, drop, set, Some, None, Option, sym, refl, ap, ◌∙◌, ap₂, arith, below_more}
-use Rattle.std.proofs.lemmas.List.{append-nil, append_assoc, at_drop_more, at_drop_all, get_or-set_same, get_or-set_other, set-get_or}
+use Rattle.std.proofs.Common.{◌≡◌, ℕ, suc, ◌+◌, ◌<◌, ◌≤◌, Bool, true, false, cond, ◌||◌, List, [], ◌∷◌, ◌++◌, map, length, get_or, drop, set, Some, None, Option, sym, refl, ap, ◌∙◌, ap₂, arith, below_more}
+use Rattle.std.specs.Bool.{then_some}
+use Rattle.std.specs.List.{list_any}
+use Rattle.std.proofs.lemmas.List.{append-nil, append_assoc, at_drop_more, at_drop_all, get_or-set_same, get_or-set_other}
 use Rattle.promise.specs.Bytes.{Bytes}
 use Rattle.promise.specs.Desks as p
 use Rattle.codec.specs.Messages as c
@@ -8,26 +10,30 @@ use Rattle.ids.specs.declared.Seq.{Seq}
 use Rattle.asking.specs.Code.{saying}
 use Rattle.asking.specs.Desk as m
 use Rattle.desk_side.specs.declared.slot.Slot.{Slot}
-use Rattle.desk_side.specs.declared.slot.Slot.TheVariants.{Idle, Waiting}
+use Rattle.desk_side.specs.declared.slot.Waiting.{Waiting}
 use Rattle.desk_side.specs.declared.slot.Which.{Which}
 use Rattle.desk_side.specs.declared.output.Output.{Output}
-use Rattle.desk_side.specs.Slots.{passes, passing, any_passes, blank}
-use Rattle.desk_side.specs.View.{call_in, slots_of, first, rest}
+use Rattle.desk_side.specs.Slots.{passes, passes_if, passing, is_passing, blank, call_in, slot_with, slots_of, first, rest}
 use Rattle.desk_side.specs.Outputs.{outs_of, asks_by, asks_of, sealed_by, sealed, Holds}
 use Rattle.desk_side.proofs.Agree.{get_or_first, get_or_rest, call_behind, slots_same}
 
-spoke_one : (t old : ℕ) (v r : Bool) (x : p.Does c.Msg) (ds : List (p.Does c.Msg)) → m.spoke_by t old ds ≡ cond r t old → m.spoke_by t old (m.say_if v x ds) ≡ cond (cond v true r) t old
+spoke_say : (t old : ℕ) (v r : Bool) (x : p.Does c.Msg) (ds : List (p.Does c.Msg)) → m.spoke_by t old ds ≡ cond r t old → m.spoke_by t old (m.say_if v x ds) ≡ cond (v || r) t old
 unfolding m.spoke_by m.say_if
-spoke_one t old true r x ds e = refl
-spoke_one t old false r x ds e = e
+spoke_say t old true r x ds e = refl
+spoke_say t old false r x ds e = e
+
+spoke_one : (w : Which) (s j t old : ℕ) (q : Seq) (o : Option Waiting) (d : Bytes) (ss : List m.Slot) (r : Bool) → m.spoke_by t old (m.requests (passes w) s (j + 1) ss) ≡ cond r t old →
+    m.spoke_by t old (m.requests (passes w) s j (slot_with q d o ∷ ss)) ≡ cond (passes_if w o || r) t old
+unfolding m.requests
+spoke_one w s j t old q None d ss r e = e
+spoke_one w s j t old q (Some x) d ss r e = spoke_say t old (passes w x.sent x.last.0) r _ (m.requests (passes w) s (j + 1) ss) e
 
 -- it spoke if anything was asked for
-pub spoke_asking : (w : Which) (s j t old : ℕ) (xs : List Slot) (ps : List Bytes) → m.spoke_by t old (m.requests (passes w) s j (slots_of xs ps)) ≡ cond (any_passes w xs) t old
+pub spoke_asking : (w : Which) (s j t old : ℕ) (xs : List Slot) (ps : List Bytes) → m.spoke_by t old (m.requests (passes w) s j (slots_of xs ps)) ≡ cond (list_any (is_passing w) xs) t old
 unfolding m.spoke_by m.requests slots_of
 spoke_asking w s j t old [] ps = refl
-spoke_asking w s j t old (Idle q ∷ xs) ps = spoke_asking w s (j + 1) t old xs (rest ps)
-spoke_asking w s j t old (Waiting q k b f l ∷ xs) ps =
-    spoke_one t old (passes w b l.0) (any_passes w xs) _ (m.requests (passes w) s (j + 1) (slots_of xs (rest ps))) (spoke_asking w s (j + 1) t old xs (rest ps))
+spoke_asking w s j t old (x ∷ xs) ps =
+    spoke_one w s j t old x.seq x.waiting (first ps) (slots_of xs (rest ps)) (list_any (is_passing w) xs) (spoke_asking w s (j + 1) t old xs (rest ps))
 
 holds_rest : (all : List Bytes) (w : Which) (s j : ℕ) (x : Slot) (xs : List Slot) (ps : List Bytes) → Holds all w s j (x ∷ xs) ps → Holds all w s (j + 1) xs (rest ps)
 holds_rest all w s j x xs ps h k lt =
@@ -44,22 +50,28 @@ holds_first all w s j x xs ps h =
     b ∙ ap (sealed w s j x) (get_or_first ps)
 
 say_one : (all : List Bytes) (g b : Bytes) (s j : ℕ) (q : Seq) (d : Bytes) (v : Bool) (os : List Output) (ds : List (p.Does c.Msg)) →
-    get_or all j [] ≡ sealed_by (cond v (Some q) None) s j d → outs_of all g b os ≡ map saying ds →
-    outs_of all g b (asks_by (cond v (Some q) None) j os) ≡ map saying (m.say_if v (p.To 0 (c.Request s j q.0 (call_in d))) ds)
+    get_or all j [] ≡ sealed_by (then_some v q) s j d → outs_of all g b os ≡ map saying ds →
+    outs_of all g b (asks_by (then_some v q) j os) ≡ map saying (m.say_if v (p.To 0 (c.Request s j q.0 (call_in d))) ds)
 unfolding m.say_if
 say_one all g b s j q d true os ds e h = ap₂ (λ (y : Bytes) (ys : List (p.Does Bytes)). p.To 0 y ∷ ys) e h
 say_one all g b s j q d false os ds e h = h
+
+say_slot : (all : List Bytes) (g b : Bytes) (w : Which) (s j : ℕ) (q : Seq) (o : Option Waiting) (d : Bytes) (os : List Output) (ss : List m.Slot) →
+    get_or all j [] ≡ sealed_by (then_some (passes_if w o) q) s j d → outs_of all g b os ≡ map saying (m.requests (passes w) s (j + 1) ss) →
+    outs_of all g b (asks_by (then_some (passes_if w o) q) j os) ≡ map saying (m.requests (passes w) s j (slot_with q d o ∷ ss))
+unfolding m.requests
+say_slot all g b w s j q None d os ss e h = h
+say_slot all g b w s j q (Some x) d os ss e h = say_one all g b s j q d (passes w x.sent x.last.0) os (m.requests (passes w) s (j + 1) ss) e h
 
 -- what the outputs stand for
 pub asks_say : (all : List Bytes) (g b : Bytes) (w : Which) (s j : ℕ) (xs : List Slot) (ps : List Bytes) → Holds all w s j xs ps →
     outs_of all g b (asks_of w j xs) ≡ map saying (m.requests (passes w) s j (slots_of xs ps))
 unfolding m.requests slots_of asks_of
 asks_say all g b w s j [] ps h = refl
-asks_say all g b w s j (Idle q ∷ xs) ps h = asks_say all g b w s (j + 1) xs (rest ps) (holds_rest all w s j (Idle q) xs ps h)
-asks_say all g b w s j (Waiting q k v f l ∷ xs) ps h =
-    say_one all g b s j q (first ps) (passes w v l.0) (asks_of w (j + 1) xs) (m.requests (passes w) s (j + 1) (slots_of xs (rest ps)))
-    (holds_first all w s j (Waiting q k v f l) xs ps h)
-    (asks_say all g b w s (j + 1) xs (rest ps) (holds_rest all w s j (Waiting q k v f l) xs ps h))
+asks_say all g b w s j (x ∷ xs) ps h =
+    say_slot all g b w s j x.seq x.waiting (first ps) (asks_of w (j + 1) xs) (slots_of xs (rest ps))
+    (holds_first all w s j x xs ps h)
+    (asks_say all g b w s (j + 1) xs (rest ps) (holds_rest all w s j x xs ps h))
 
 sealed_call : (o : Option Seq) (s j : ℕ) (p : Bytes) → call_in (sealed_by o s j p) ≡ call_in p
 sealed_call None s j p = refl
@@ -118,12 +130,3 @@ sealing_all all ps w s j xs h old k lt =
     let e : k ≡ 0 + k = omega arith in
     let a = old.below k (omega arith) in
     rw (← e) a
-
--- nothing was asked for
-pub none_says : (o : Option Seq) (j : ℕ) (os : List Output) → None ≡ o → os ≡ os ++ asks_by o j []
-none_says None j os e = sym (append-nil os)
-none_says (Some q) j os e = let z : ◌≡◌ {A = ℕ} 0 1 = cc in absurd (omega arith)
-
-pub none_seals : (o : Option Seq) (s j : ℕ) (ps : List Bytes) → None ≡ o → ps ≡ set ps j (sealed_by o s j (get_or ps j []))
-none_seals None s j ps e = sym (set-get_or ps j [])
-none_seals (Some q) s j ps e = let z : ◌≡◌ {A = ℕ} 0 1 = cc in absurd (omega arith)

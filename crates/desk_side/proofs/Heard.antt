@@ -1,118 +1,106 @@
--- What a desk knows and does after a Welcome and a Response.
-use Rattle.std.proofs.Common.{◌≡◌, ℕ, Bool, true, false, cond, eqb, List, [], map, get_or, Some, None, vec_items, Option, sym, refl, ap, ◌∙◌, arith}
+-- What a desk says and knows after a Welcome and a Response.
+use Rattle.std.proofs.Common.{◌≡◌, ◌≢◌, ℕ, Bool, true, false, eqb, ◌==◌, List, [], map, get_or, Some, None, Option, sym, refl, ap, ◌∙◌, arith}
+use Rattle.std.specs.Bool.{then_some}
+use Rattle.std.specs.Option.{ForSome, option_eq}
+use Rattle.std.proofs.lemmas.Bool.Decides.{nat_tests}
 use Rattle.promise.specs.Bytes.{Bytes}
 use Rattle.codec.specs.Messages as c
 use Rattle.ids.specs.declared.Seq.{Seq}
-use Rattle.ids.specs.declared.Nonce.{Nonce}
 use Rattle.ids.specs.declared.Session.{Session}
 use Rattle.ids.specs.declared.CallNumber.{CallNumber}
-use Rattle.asking.specs.Code.{saying}
 use Rattle.asking.specs.House.{is_session}
 use Rattle.asking.specs.Desk as m
-use Rattle.parts.specs.View.{parts_in}
 use Rattle.desk_side.specs.declared.slot.Slot.{Slot}
-use Rattle.desk_side.specs.declared.slot.Slot.TheVariants.{Idle, Waiting}
-use Rattle.desk_side.specs.declared.slot.Which.TheVariants.{NotSent}
-use Rattle.desk_side.specs.declared.state.Asking.{Asking}
-use Rattle.desk_side.specs.declared.desk.Desk.{Desk}
-use Rattle.desk_side.specs.Slots.{blank}
-use Rattle.desk_side.specs.Steps.{adopted, adopting, is_mine, waits_by, waits, settled}
-use Rattle.desk_side.specs.View.{slot_of, desk_of}
-use Rattle.desk_side.specs.Outputs.{outs_of}
-use Rattle.desk_side.specs.Desks.{desk_in, Did, asks_all, heard}
-use Rattle.desk_side.proofs.Agree.{map_unsent, slot_at, set_idle}
+use Rattle.desk_side.specs.declared.slot.Waiting.{Waiting}
+use Rattle.desk_side.specs.Slots.{blank, slot_with, slots_of}
+use Rattle.desk_side.specs.Sessions.{session_of}
+use Rattle.desk_side.specs.Steps.{waits_if, waits}
+use Rattle.desk_side.specs.Said.{heard}
+use Rattle.desk_side.proofs.Agree.{slot_at}
 
--- the model's turn, said otherwise
-pub did_as : (d : Desk) (b : Bytes) (x y : m.DeskTurn) → x ≡ y → Did d b x → Did d b y
-did_as d b x y e h = record { knows = h.knows ∙ ap (λ (z : m.DeskTurn). z.desk) e; does = h.does ∙ ap (λ (z : m.DeskTurn). map saying z.does) e }
+-- WELCOME
 
--- a desk that does nothing
-pub did_still : (d : Desk) (b : Bytes) (x : m.DeskTurn) → vec_items d.outputs ≡ [] → x ≡ m.does_nothing (desk_in d) → Did d b x
-did_still d b x e ex = did_as d b (m.does_nothing (desk_in d)) x (sym ex) (record { knows = refl; does = ap (outs_of (parts_in d.parts) (vec_items d.greeting) b) e })
+eq_sym : (a b : ℕ) → (a == b) ≡ (b == a)
+eq_sym a b = grind (arith, nat_tests)
 
-adopt_one : (s : Session) (a : Asking) (ps : List Bytes) (v : Bool) → m.adopts_by s.0 v (desk_of a ps) ≡ desk_of (cond v a (adopted s a)) ps
+eq_not : (a b : ℕ) → a ≢ b → (a == b) ≡ false
+eq_not a b h = grind (arith, nat_tests)
+
+-- two that are given out, or none, are compared by the numbers that messages have for them
+pub same_number : (o r : Option Session) → ForSome o (λ s. s.0 ≢ 0) → ForSome r (λ s. s.0 ≢ 0) → (n : ℕ) → session_of r ≡ n → option_eq (λ (a b : Session). a.0 == b.0) o r ≡ (n == session_of o)
+same_number None None h k n e = ap (λ (x : ℕ). x == 0) e
+same_number None (Some r) h k n e = sym (eq_not n 0 (λ z. k r refl (e ∙ z)))
+same_number (Some s) None h k n e = sym (eq_not n s.0 (λ z. h s refl (sym z ∙ sym e)))
+same_number (Some s) (Some r) h k n e = eq_sym s.0 r.0 ∙ ap (λ (x : ℕ). x == s.0) e
+
+pub adopts_same : (s : ℕ) (v : Bool) (d : m.Desk) → v ≡ true → m.adopts_by s v d ≡ d
 unfolding m.adopts_by
-adopt_one s a ps true = refl
-adopt_one s a ps false = ap (λ (xs : List m.Slot). record { nonce = a.nonce.0; session = s.0; answered = a.answered; spoke = a.spoke.0; may_hold = a.may_hold; slots = xs }) (map_unsent a.slots ps)
+adopts_same s v d e = ap (λ u. m.adopts_by s u d) e
 
-pub welcome_mine : (t : ℕ) (n : Nonce) (s : Session) (a b : Asking) (ps : List Bytes) → is_mine n s a ≡ true → b ≡ adopting s a → asks_all NotSent t (desk_of b ps) ≡ m.welcome t n.0 s.0 (desk_of a ps)
-unfolding m.welcome_by
-welcome_mine t n s a b ps e eb =
-    let d : m.Desk = desk_of a ps in
-    let ad : desk_of b ps ≡ m.adopts_by s.0 (eqb s.0 a.session.0) d = ap (λ (x : Asking). desk_of x ps) eb ∙ sym (adopt_one s a ps (eqb s.0 a.session.0)) in
-    ap (λ (x : m.Desk). asks_all NotSent t x) ad ∙ sym (ap (λ (v : Bool). m.welcome_by t s.0 v d) e)
+pub adopts_other : (s : ℕ) (v : Bool) (d : m.Desk) → v ≡ false → m.adopts_by s v d ≡ m.with_session s (map m.unsent d.slots) d
+unfolding m.adopts_by
+adopts_other s v d e = ap (λ u. m.adopts_by s u d) e
 
-pub welcome_other : (t : ℕ) (n : Nonce) (s : Session) (a : Asking) (ps : List Bytes) → is_mine n s a ≡ false → m.welcome t n.0 s.0 (desk_of a ps) ≡ m.does_nothing (desk_of a ps)
+pub welcome_mine : (t s : ℕ) (v : Bool) (d e : m.Desk) → v ≡ true → e ≡ m.adopts_by s (eqb s d.session) d → m.sends_unsent t e ≡ m.welcome_by t s v d
 unfolding m.welcome_by
-welcome_other t n s a ps e = ap (λ (v : Bool). m.welcome_by t s.0 v (desk_of a ps)) e
+welcome_mine t s v d e ev ee = ap (m.sends_unsent t) ee ∙ sym (ap (λ u. m.welcome_by t s u d) ev)
+
+pub welcome_other : (t s : ℕ) (v : Bool) (d : m.Desk) → v ≡ false → m.does_nothing d ≡ m.welcome_by t s v d
+unfolding m.welcome_by
+welcome_other t s v d e = sym (ap (λ u. m.welcome_by t s u d) e)
 
 -- RESPONSE
 
-pub response_other : (j q : ℕ) (x : Bytes) (v : Bool) (d : m.Desk) → v ≡ false → m.response_by j q x v d ≡ m.does_nothing d
+pub response_other : (j q : ℕ) (x : Bytes) (v : Bool) (d : m.Desk) → v ≡ false → m.does_nothing d ≡ m.response_by j q x v d
 unfolding m.response_by
-response_other j q x v d e = ap (λ (u : Bool). m.response_by j q x u d) e
+response_other j q x v d e = sym (ap (λ u. m.response_by j q x u d) e)
 
-seq_none : (j q k : ℕ) (n : CallNumber) (x : Bytes) (v : Bool) (d : m.Desk) → None ≡ cond v (Some n) None → m.seq_by j q k x v d ≡ m.does_nothing d
+-- what the number of the call that is answered leaves, if there is one
+abbrev pub answered_by : Option CallNumber → (j q : ℕ) → Bytes → m.Desk → m.DeskTurn
+answered_by None j q x d = m.does_nothing d
+answered_by (Some k) j q x d = m.tells_answer j q k.0 x d
+
+seq_answered : (v : Bool) (k : CallNumber) (j q : ℕ) (x : Bytes) (d : m.Desk) → m.seq_by j q k.0 x v d ≡ answered_by (then_some v k) j q x d
 unfolding m.seq_by
-seq_none j q k n x true d e = let z : ◌≡◌ {A = ℕ} 0 1 = cc in absurd (omega arith)
-seq_none j q k n x false d e = refl
+seq_answered true k j q x d = refl
+seq_answered false k j q x d = refl
 
-slot_none : (j : ℕ) (q : Seq) (x : Bytes) (y : Slot) (b : Bytes) (d : m.Desk) → None ≡ waits_by q y → m.slot_by j q.0 x (slot_of y b) d ≡ m.does_nothing d
+slot_answered : (r : Seq) (o : Option Waiting) (j q : ℕ) (x b : Bytes) (d : m.Desk) → m.slot_by j q x (slot_with r b o) d ≡ answered_by (waits_if (eqb r.0 q) o) j q x d
 unfolding m.slot_by
-slot_none j q x (Idle r) b d e = refl
-slot_none j q x (Waiting r k s f l) b d e = seq_none j q.0 k.0 k x (eqb r.0 q.0) d e
+slot_answered r None j q x b d = refl
+slot_answered r (Some w) j q x b d = seq_answered (eqb r.0 q) w.number j q x d
 
-seq_some : (j q : ℕ) (k n : CallNumber) (x : Bytes) (v : Bool) (d : m.Desk) → Some n ≡ cond v (Some k) None → m.seq_by j q k.0 x v d ≡ m.tells_answer j q n.0 x d
-unfolding m.seq_by
-seq_some j q k n x true d e = let i : k ≡ n = cc in ap (λ (u : CallNumber). m.tells_answer j q u.0 x d) i
-seq_some j q k n x false d e = let z : ◌≡◌ {A = ℕ} 0 1 = cc in absurd (omega arith)
-
-slot_some : (j : ℕ) (q : Seq) (n : CallNumber) (x : Bytes) (y : Slot) (b : Bytes) (d : m.Desk) → Some n ≡ waits_by q y → m.slot_by j q.0 x (slot_of y b) d ≡ m.tells_answer j q.0 n.0 x d
-unfolding m.slot_by
-slot_some j q n x (Idle r) b d e = let z : ◌≡◌ {A = ℕ} 0 1 = cc in absurd (omega arith)
-slot_some j q n x (Waiting r k s f l) b d e = seq_some j q.0 k n x (eqb r.0 q.0) d e
-
-respond : (j : ℕ) (q : Seq) (x : Bytes) (v : Bool) (a : Asking) (ps : List Bytes) → v ≡ true →
-    m.response_by j q.0 x v (desk_of a ps) ≡ m.slot_by j q.0 x (slot_of (get_or a.slots j blank) (get_or ps j [])) (desk_of a ps)
+pub response_answered : (j : ℕ) (q : Seq) (x : Bytes) (v : Bool) (xs : List Slot) (ps : List Bytes) (d : m.Desk) (o : Option CallNumber) → d.slots ≡ slots_of xs ps → v ≡ true → waits j q xs ≡ o →
+    answered_by o j q.0 x d ≡ m.response_by j q.0 x v d
 unfolding m.response_by
-respond j q x v a ps e = ap (λ (u : Bool). m.response_by j q.0 x u (desk_of a ps)) e ∙ ap (λ (y : m.Slot). m.slot_by j q.0 x y (desk_of a ps)) (slot_at a.slots ps j)
-
-pub response_none : (j : ℕ) (q : Seq) (x : Bytes) (v : Bool) (a : Asking) (ps : List Bytes) → v ≡ true → None ≡ waits j q a → m.response_by j q.0 x v (desk_of a ps) ≡ m.does_nothing (desk_of a ps)
-response_none j q x v a ps e n = respond j q x v a ps e ∙ slot_none j q x (get_or a.slots j blank) (get_or ps j []) (desk_of a ps) n
-
-pub response_some : (j : ℕ) (q : Seq) (n : CallNumber) (x : Bytes) (v : Bool) (a : Asking) (ps : List Bytes) → v ≡ true → Some n ≡ waits j q a →
-    m.response_by j q.0 x v (desk_of a ps) ≡ m.tells_answer j q.0 n.0 x (desk_of a ps)
-response_some j q n x v a ps e s = respond j q x v a ps e ∙ slot_some j q n x (get_or a.slots j blank) (get_or ps j []) (desk_of a ps) s
-
-pub settled_knows : (j k : ℕ) (q : Seq) (x : Bytes) (a b : Asking) (ps : List Bytes) → b ≡ settled j q a → desk_of b ps ≡ (m.tells_answer j q.0 k x (desk_of a ps)).desk
-settled_knows j k q x a b ps e =
-    ap (λ (y : Asking). desk_of y ps) e
-    ∙ ap (λ (xs : List m.Slot). record { nonce = a.nonce.0; session = a.session.0; answered = true; spoke = a.spoke.0; may_hold = a.may_hold; slots = xs }) (sym (set_idle a.slots ps j q))
+response_answered j q x v xs ps d o es e eo =
+    sym (ap (λ u. m.response_by j q.0 x u d) e
+    ∙ ap (λ (ss : List m.Slot). m.slot_by j q.0 x (get_or ss j (m.Idle 0)) d) es
+    ∙ ap (λ (y : m.Slot). m.slot_by j q.0 x y d) (slot_at xs ps j)
+    ∙ slot_answered (get_or xs j blank).seq (get_or xs j blank).waiting j q.0 x (get_or ps j []) d
+    ∙ ap (λ (y : Option CallNumber). answered_by y j q.0 x d) eo)
 
 -- BY MESSAGE
 
-pub hears_as : (t : ℕ) (o : Option c.Msg) (x : c.Msg) (d : m.Desk) (y : m.DeskTurn) → o ≡ Some x → m.desk_hears t x d ≡ y → heard t o d ≡ y
-hears_as t o x d y e h = ap (λ (z : Option c.Msg). heard t z d) e ∙ h
+pub hears_as : (t : ℕ) (o : Option c.Msg) (x : c.Msg) (d : m.Desk) (y : m.DeskTurn) → o ≡ Some x → y ≡ m.desk_hears t x d → y ≡ heard t o d
+hears_as t o x d y e h = h ∙ sym (ap (λ (z : Option c.Msg). heard t z d) e)
 
-pub hears_none : (t : ℕ) (o : Option c.Msg) (d : m.Desk) → None ≡ o → heard t o d ≡ m.does_nothing d
-hears_none t o d e = ap (λ (z : Option c.Msg). heard t z d) (sym e)
-
-pub hello_still : (t n : ℕ) (d : m.Desk) → m.desk_hears t (c.Hello n) d ≡ m.does_nothing d
+pub hello_still : (t n : ℕ) (d : m.Desk) → m.does_nothing d ≡ m.desk_hears t (c.Hello n) d
 unfolding m.desk_hears
 hello_still t n d = refl
 
-pub alive_still : (t s : ℕ) (d : m.Desk) → m.desk_hears t (c.Alive s) d ≡ m.does_nothing d
+pub alive_still : (t s : ℕ) (d : m.Desk) → m.does_nothing d ≡ m.desk_hears t (c.Alive s) d
 unfolding m.desk_hears
 alive_still t s d = refl
 
-pub request_still : (t s j q : ℕ) (x : Bytes) (d : m.Desk) → m.desk_hears t (c.Request s j q x) d ≡ m.does_nothing d
+pub request_still : (t s j q : ℕ) (x : Bytes) (d : m.Desk) → m.does_nothing d ≡ m.desk_hears t (c.Request s j q x) d
 unfolding m.desk_hears
 request_still t s j q x d = refl
 
-pub hears_welcome : (t n s : ℕ) (d : m.Desk) → m.desk_hears t (c.Welcome n s) d ≡ m.welcome t n s d
+pub hears_welcome : (t n s : ℕ) (d : m.Desk) → m.welcome t n s d ≡ m.desk_hears t (c.Welcome n s) d
 unfolding m.desk_hears
 hears_welcome t n s d = refl
 
-pub hears_response : (t s j q g : ℕ) (x y : Bytes) (d : m.Desk) → x ≡ y → m.desk_hears t (c.Response s j q g y) d ≡ m.response_by j q x (is_session s d.session) d
+pub hears_response : (t s j q g : ℕ) (x y : Bytes) (d : m.Desk) → x ≡ y → m.response_by j q x (is_session s d.session) d ≡ m.desk_hears t (c.Response s j q g y) d
 unfolding m.desk_hears
-hears_response t s j q g x y d e = ap (λ (z : Bytes). m.response_by j q z (is_session s d.session) d) (sym e)
+hears_response t s j q g x y d e = ap (λ (z : Bytes). m.response_by j q z (is_session s d.session) d) e

@@ -1,7 +1,6 @@
 pub mod Agree
 pub mod Asked
 pub mod Said
-pub mod Written
 pub mod Heard
 pub mod Answer
 pub mod Ticked

@@ -1,40 +1,36 @@
--- A whole turn, and how a desk begins.
-use Rattle.std.proofs.Common.{◌≡◌, ℕ, Bool, true, false, eqb, List, map, Some, None, Option, sym, refl, ap, ◌∙◌, subst, eqb-true}
-use Rattle.promise.specs.Bytes.{Bytes}
+-- A whole turn.
+use Rattle.std.proofs.Common.{◌≡◌, ℕ, Bool, true, false, eqb, map, Some, None, Option, sym, refl, ap, ◌∙◌, eqb-true}
 use Rattle.codec.specs.Messages.{Msg, decode_msg}
-use Rattle.ids.specs.declared.Clock.{Clock}
-use Rattle.ids.specs.declared.Nonce.{Nonce}
+use Rattle.promise.specs.Bytes.{Bytes}
 use Rattle.promise.specs.Machine.{Machine, sheets}
 use Rattle.promise.specs.Desks as p
 use Rattle.asking.specs.Code.{Settings, desk, saying, byte_turn, decoded_turn, mind_turn, desk_turn}
 use Rattle.asking.specs.Desk as m
 use Rattle.desk_side.specs.declared.output.Event.{Event}
+use Rattle.desk_side.specs.declared.say.Say.{Say}
+use Rattle.desk_side.specs.declared.state.Asking.{Asking}
 use Rattle.desk_side.specs.declared.desk.Desk.{Desk}
-use Rattle.desk_side.specs.Steps.{begun}
-use Rattle.desk_side.specs.View.{desk_of, slots_of}
-use Rattle.desk_side.specs.Desks.{desk_in, outs_in, Did, heard}
+use Rattle.desk_side.specs.Desks.{desk_in, outs_in, Did}
+use Rattle.desk_side.specs.Said.{said, heard}
 use Rattle.desk_side.specs.Turns.{comes_of, came_of, decoded, turn_of, AsModel}
 
-pub turned : (d : Desk) (ev known : Event) (z : Settings) (t : ℕ) (old : m.Desk) → ev ≡ known → Did d (came_of known) (turn_of z (comes_of known) t old) → Did d (came_of ev) (turn_of z (comes_of ev) t old)
-turned d ev known z t old e h = subst (λ (x : Event). Did d (came_of x) (turn_of z (comes_of x) t old)) (sym e) h
+-- at what came, by its name
+pub turned : (r : Say) (a : Asking) (z : Settings) (t : ℕ) (d : m.Desk) (ev known : Event) → ev ≡ known → said r t (came_of known) a ≡ turn_of z (comes_of known) t d → said r t (came_of ev) a ≡ turn_of z (comes_of ev) t d
+turned r a z t d ev known e h = ap (λ (x : Event). said r t (came_of x) a) e ∙ h ∙ sym (ap (λ (x : Event). turn_of z (comes_of x) t d) e)
 
 pub from_house : (i t : ℕ) (o : Option Msg) (d : m.Desk) → i ≡ 0 → heard t o d ≡ decoded i t o d
 unfolding m.desk_from_by
 from_house i t None d e = refl
 from_house i t (Some x) d e = sym (ap (λ (k : ℕ). m.desk_from_by t x (eqb k 0) d) e)
 
-from_by : (i t : ℕ) (x : Msg) (d : m.Desk) (v : Bool) → eqb i 0 ≡ v → (i ≡ 0 → ⊥) → m.desk_from_by t x v d ≡ m.does_nothing d
+from_by : (i t : ℕ) (x : Msg) (d : m.Desk) (v : Bool) → eqb i 0 ≡ v → (i ≡ 0 → ⊥) → m.does_nothing d ≡ m.desk_from_by t x v d
 unfolding m.desk_from_by
 from_by i t x d true e n = absurd (n (eqb-true i 0 e))
 from_by i t x d false e n = refl
 
-pub from_other : (i t : ℕ) (o : Option Msg) (d : m.Desk) → (i ≡ 0 → ⊥) → decoded i t o d ≡ m.does_nothing d
+pub from_other : (i t : ℕ) (o : Option Msg) (d : m.Desk) → (i ≡ 0 → ⊥) → m.does_nothing d ≡ decoded i t o d
 from_other i t None d n = refl
 from_other i t (Some x) d n = from_by i t x d (eqb i 0) refl n
-
-pub begins_so : (n : Nonce) (t : Clock) (ps : List Bytes) → desk_of (begun n t) ps ≡ m.desk_begins n.0 t.0
-unfolding m.desk_begins slots_of
-begins_so n t ps = refl
 
 decoded_bytes : (k : Machine) (z : Settings) (i t : ℕ) (o : Option Msg) (d : m.Desk) → decoded_turn {m = k} z i o t (desk d) ≡ record { does = map saying (decoded i t o d).does; mind = desk (decoded i t o d).desk }
 unfolding decoded_turn mind_turn desk_turn
@@ -48,5 +44,5 @@ turn_bytes k z (p.Ask n x) t d = refl
 turn_bytes k z p.Beat t d = refl
 
 -- what a desk did is what the model over bytes does
-pub as_model : (z : Settings) (x : p.Comes Bytes) (t : ℕ) (d : m.Desk) (e : Desk) (came : Bytes) → Did e came (turn_of z x t d) → AsModel z x t d (outs_in e came) (desk_in e)
+pub as_model : (z : Settings) (x : p.Comes Bytes) (t : ℕ) (d : m.Desk) (e : Desk) (came : Bytes) → Did e.memory came (turn_of z x t d) → AsModel z x t d (outs_in e came) (desk_in e)
 as_model z x t d e came h can room = turn_bytes (sheets can room) z x t d ∙ (λ i. record { does = sym h.does i; mind = desk (sym h.knows i) })

@@ -1,7 +1,11 @@
+pub mod Ready
+pub mod Sessions
 pub mod Slots
 pub mod Steps
 pub mod View
+pub mod Calls
+pub mod Said
 pub mod Outputs
-pub mod Ready
+pub mod Begin
 pub mod Desks
 pub mod Turns

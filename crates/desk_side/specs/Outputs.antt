@@ -10,8 +10,7 @@ use Rattle.desk_side.specs.declared.slot.Slot.{Slot}
 use Rattle.desk_side.specs.declared.slot.Which.{Which}
 use Rattle.desk_side.specs.declared.output.Output.{Output}
 use Rattle.desk_side.specs.declared.output.Output.TheVariants.{Hello, Alive, Request, Tell, Busy}
-use Rattle.desk_side.specs.Slots.{passing, blank}
-use Rattle.desk_side.specs.View.{call_in}
+use Rattle.desk_side.specs.Slots.{passing, blank, call_in}
 
 -- what an output stands for. greeting: where Hello and Alive are written; came: the message that came
 abbrev pub out_of : (parts : List Bytes) → (greeting came : Bytes) → Output → p.Does Bytes

@@ -1,6 +1,6 @@
 -- A turn over bytes.
 -- Assumes nothing.
-use Rattle.std.specs.Prelude.{◌≡◌, ℕ, ◌<◌, ◌≤◌, Bool, true, false, List, [], Some, None, Ok, Err, vec_items, Option, Result}
+use Rattle.std.specs.Prelude.{◌≡◌, ℕ, ◌<◌, ◌≤◌, Bool, true, false, List, [], Some, None, Ok, Err, Option, Result}
 use Rattle.ids.specs.declared.CallNumber.{CallNumber}
 use Rattle.ids.specs.declared.Nonce.{Nonce}
 use Rattle.ids.specs.declared.Clock.{Clock}
@@ -14,9 +14,9 @@ use Rattle.asking.specs.Desk as m
 use Rattle.desk_side.specs.declared.desk.Desk.{Desk}
 use Rattle.desk_side.specs.declared.output.BeginError.{BeginError}
 use Rattle.desk_side.specs.declared.output.BeginError.TheVariants.{LentTooLittle, RetryOutOfRange, NoMemory}
-use Rattle.desk_side.specs.Desks.{desk_in}
+use Rattle.desk_side.specs.Desks.{desk_in, outputs_of}
 use Rattle.std.specs.Borrow.{Bor}
-use Rattle.parts.specs.View.{parts_in}
+use Rattle.desk_side.specs.View.{requests_in, greeting_in}
 use Rattle.desk_side.specs.declared.output.Output.{Output}
 use Rattle.desk_side.specs.declared.output.Output.TheVariants as o
 use Rattle.desk_side.specs.Outputs.{out_of}
@@ -55,7 +55,7 @@ needed = 8391040
 
 -- a desk that has begun, or why it has not
 abbrev pub Begins : (lent retry : ℕ) → Nonce → Clock → Result Desk BeginError → Type 0
-Begins lent r n t (Ok d) = (desk_in d ≡ m.desk_begins n.0 t.0) × (vec_items d.outputs ≡ []) × (d.retry ≡ r) × (needed ≤ lent) × (0 < r) × (r ≤ 50000)
+Begins lent r n t (Ok d) = (desk_in d ≡ m.desk_begins n.0 t.0) × (outputs_of d ≡ []) × (d.retry ≡ r) × (needed ≤ lent) × (0 < r) × (r ≤ 50000)
 Begins lent r n t (Err LentTooLittle) = lent < needed
 Begins lent r n t (Err RetryOutOfRange) = (needed ≤ lent) × (0 < r → 50000 < r)
 Begins lent r n t (Err NoMemory) = (needed ≤ lent) × (0 < r) × (r ≤ 50000)
@@ -70,7 +70,7 @@ is_told (o.Busy k) = true
 
 abbrev pub Says : Desk → Output → Option (Bor Bytes) → Type 0
 Says d x None = is_told x ≡ true
-Says d x (Some r) = (b : Bytes) → out_of (parts_in d.parts) (vec_items d.greeting) b x ≡ p.To 0 r.now
+Says d x (Some r) = (b : Bytes) → out_of (requests_in d.memory.asking.requests) (greeting_in d.memory.greeting) b x ≡ p.To 0 r.now
 
 -- the answer that an output tells, and under which number; none for a message
 abbrev pub Tells : (came : Bytes) → Output → Option (CallNumber × Bor Bytes) → Type 0

@@ -1,17 +1,29 @@
 // How a desk begins.
-ghost use Rattle.desk_side.specs.Turns.{Begins};
-
+use crate::calls::LONGEST_CALL;
 use crate::desk::Desk;
+use crate::greeting::Greeting;
+use crate::memory::Memory;
 use crate::output::BeginError;
+use crate::outputs::Outputs;
+use crate::requests::Requests;
+use crate::slot::SLOTS;
 use crate::state::Asking;
 use ids::{Clock, Nonce};
 use parts::lent::Parts;
 use std::alloc::Global;
 
-// Eight Requests with the longest call: 30 bytes and 1,048,850.
-const NEEDED: usize = 8_391_040;
+// How many bytes stand before the call in a Request.
+const REQUEST_HEAD: usize = 30;
+
+// A Request with the longest call for each slot.
+const NEEDED: usize = SLOTS * (REQUEST_HEAD + LONGEST_CALL);
+
+// The longest retransmission time, in milliseconds.
+const LONGEST_RETRY: u64 = 50_000;
 
 impl Desk {
+    ghost use Rattle.desk_side.specs.Turns.{Begins};
+
     // lent: how much memory it may have; retry: the retransmission time in ms.
     pub fn begin(
         heap: Global,
@@ -25,24 +37,15 @@ impl Desk {
         if lent < NEEDED {
             return Err(BeginError::LentTooLittle);
         }
-        if retry == 0 || retry > 50_000 {
+        if retry == 0 || retry > LONGEST_RETRY {
             return Err(BeginError::RetryOutOfRange);
         }
-        let Ok(parts) = Parts::begin(heap, NEEDED, 8, 30) else {
-            return Err(BeginError::NoMemory);
+        let parts = Parts::begin(heap, NEEDED, SLOTS, REQUEST_HEAD)?;
+        let memory = Memory {
+            asking: Asking::begin(nonce, clock, Requests { parts }),
+            greeting: Greeting::new(heap)?,
+            outputs: Outputs::new(heap)?,
         };
-        let Ok(greeting) = Vec::with_capacity(heap, 21) else {
-            return Err(BeginError::NoMemory);
-        };
-        let Ok(outputs) = Vec::with_capacity(heap, 9) else {
-            return Err(BeginError::NoMemory);
-        };
-        Ok(Desk {
-            asking: Asking::begin(nonce, clock),
-            retry,
-            parts,
-            greeting,
-            outputs,
-        })
+        Ok(Desk { retry, memory })
     }
 }

@@ -1,6 +1,6 @@
 // What a desk did at its last turn, and the bytes that it stands for.
 ghost use Rattle.std.specs.Prelude.{◌≡◌};
-ghost use Rattle.parts.specs.View.{parts_in};
+ghost use Rattle.desk_side.specs.Desks.{outputs_of};
 ghost use Rattle.desk_side.specs.Turns.{Says};
 
 use crate::desk::Desk;
@@ -8,9 +8,9 @@ use crate::output::Output;
 
 impl Desk {
     pub fn outputs(&self) -> &[Output]
-        ensures { result.now ≡ self.now.outputs.items }
+        ensures { result.now ≡ outputs_of self.now }
     {
-        self.outputs.as_slice()
+        self.memory.outputs.as_slice()
     }
 
     // The message to the house that an output stands for; what is told stands in the message that came, or says 11.
@@ -18,11 +18,9 @@ impl Desk {
         ensures { Says self.now output result }
     {
         match output {
-            Output::Hello => Some(self.greeting.as_slice()),
-            Output::Alive => Some(self.greeting.as_slice()),
-            Output::Request { slot } => Some(self.parts.get(slot.0 as usize)),
-            Output::Tell { .. } => None,
-            Output::Busy { .. } => None,
+            Output::Hello | Output::Alive => Some(self.memory.greeting.as_slice()),
+            Output::Request { slot } => Some(self.memory.asking.requests.get(slot)),
+            Output::Tell { .. } | Output::Busy { .. } => None,
         }
     }
 }

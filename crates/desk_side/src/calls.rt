@@ -1,32 +1,33 @@
 // What a desk does at a call.
-ghost use Rattle.std.specs.Prelude.{◌≡◌, ℕ, ◌<◌, ◌≤◌, [], length, slice_index_or};
+ghost use Rattle.std.specs.Prelude.{◌≡◌, ℕ};
 ghost use Rattle.promise.specs.Bytes.{Bytes};
-ghost use Rattle.parts.specs.View.{parts_in};
-ghost use Rattle.asking.specs.Desk as m;
+ghost use Rattle.asking.specs.Desk.{shortened};
 ghost use Rattle.asking.specs.House.{next64};
-ghost use Rattle.desk_side.specs.Desks.{desk_in, Did, says_first, grabs};
-ghost use Rattle.desk_side.specs.View.{call_in};
+ghost use Rattle.desk_side.specs.Calls.{grabs};
 
-use crate::desk::Desk;
-use crate::output::Output;
-use ids::{CallNumber, Clock, Seq, SlotId};
+use crate::say::Say;
+use crate::slot::{Place, Slot, Waiting};
+use crate::state::Asking;
+use ids::{CallNumber, Clock, Seq};
+
+// How long a call is at most.
+pub(crate) const LONGEST_CALL: usize = 1_048_850;
+
+// The first byte of a call that takes a sheet.
+const TAKE: u8 = 7;
 
 // Bytes that are longer than any call are asked for as the empty call.
-fn shorten<'a>(call: &'a [u8]) -> &'a [u8]
-    ensures value { result.now ≡ m.shortened call.now }
-    ensures most { length result.now ≤ 1048850 }
+fn shorten(call: &[u8]) -> &[u8]
+    ensures { result.now ≡ shortened call.now }
 {
-    if call.len() > 1_048_850 { &[] } else { call }
+    if call.len() > LONGEST_CALL { &[] } else { call }
 }
 
 // Whether a call may put something into hand: it takes a sheet.
 fn may_grab(call: &[u8]) -> bool
     ensures { result ≡ grabs call.now }
 {
-    if call.is_empty() {
-        return false;
-    }
-    call[0] == 7
+    matches!(call, [TAKE, ..])
 }
 
 fn next(last: Seq) -> Seq
@@ -35,43 +36,53 @@ fn next(last: Seq) -> Seq
     Seq(last.0.saturating_add(1))
 }
 
-impl Desk {
-    // A Request for the call that was put into the slot; without a session a Hello, if no other call waits.
-    fn say_first(&mut self, slot: SlotId, seq: Seq, alone: bool, clock: Clock)
-        requires { (self.old.outputs.items ≡ []) × (slot.0 < 8) }
-        ensures did { (b : Bytes) → Did self.new b (says_first clock.0 slot.0 seq.0 (call_in (slice_index_or (parts_in self.old.parts) slot.0 [])) alone (desk_in self.old)) }
-        ensures retry { self.new.retry ≡ self.old.retry }
+impl Asking {
+    ghost use Rattle.asking.specs.Desk as m;
+    ghost use Rattle.desk_side.specs.Said.{said, says_first};
+    ghost use Rattle.desk_side.specs.View.{desk_of};
+
+    // A Request for the call that was put into its place; without a session a Hello, if no other call waits.
+    fn first_said(&self, place: Place, alone: bool) -> Say
+        ensures { (t : ℕ) (b : Bytes) → said result t b self.now ≡ says_first t place alone self.now }
     {
-        let asking = self.asking;
-        if asking.session.0 != 0 {
-            self.request(slot, seq);
-            self.asking = asking.speak(clock);
+        if self.session.is_some() {
+            Say::Request { place }
         } else if alone {
-            self.hello();
-            self.asking = asking.speak(clock);
+            Say::Hello
+        } else {
+            Say::Nothing
         }
     }
 
-    fn take_call(&mut self, slot: SlotId, seq: Seq, number: CallNumber, call: &[u8], clock: Clock)
-        requires { (self.old.outputs.items ≡ []) × ((slot.0 < 8) × (length call.now ≤ 1048850)) }
-        ensures did { (b : Bytes) → Did self.new b (m.takes_call grabs clock.0 number.0 call.now slot.0 seq.0 (desk_in self.old)) }
-        ensures retry { self.new.retry ≡ self.old.retry }
+    fn take_call(&mut self, place: Place, number: CallNumber, call: &[u8], clock: Clock) -> Say
+        ensures { (b : Bytes) → said result clock.0 b self.new ≡ m.takes_call grabs clock.0 number.0 (m.shortened call.now) place.slot.0 place.seq.0 (desk_of self.old) }
     {
-        let asking = self.asking;
-        self.parts.put(slot.0 as usize, call);
-        self.asking = asking.take_call(clock, number, slot, seq, may_grab(call));
-        self.say_first(slot, seq, asking.none_waits(), clock);
+        let alone = self.none_waits();
+        self.requests.put(place, call);
+        let waiting = Waiting {
+            number,
+            sent: self.session.is_some(),
+            first: clock,
+            last: clock,
+        };
+        self.slots[usize::from(place.slot.0)] = Slot {
+            seq: place.seq,
+            waiting: Some(waiting),
+        };
+        self.may_hold = self.may_hold || may_grab(shorten(call));
+        self.first_said(place, alone)
     }
 
-    pub(crate) fn call(&mut self, number: CallNumber, call: &[u8], clock: Clock)
-        requires { self.old.outputs.items ≡ [] }
-        ensures did { (b : Bytes) → Did self.new b (m.desk_called grabs clock.0 number.0 call.now (desk_in self.old)) }
-        ensures retry { self.new.retry ≡ self.old.retry }
+    pub(crate) fn call(&mut self, number: CallNumber, call: &[u8], clock: Clock) -> Say
+        ensures { (b : Bytes) → said result clock.0 b self.new ≡ m.desk_called grabs clock.0 number.0 call.now (desk_of self.old) }
     {
-        let asking = self.asking;
-        match asking.free() {
-            Some((slot, last)) => self.take_call(slot, next(last), number, shorten(call), clock),
-            None => self.outputs.push_reserved(Output::Busy { number }),
-        }
+        let Some(last) = self.free() else {
+            return Say::Busy { number };
+        };
+        let place = Place {
+            slot: last.slot,
+            seq: next(last.seq),
+        };
+        self.take_call(place, number, call, clock)
     }
 }

@@ -1,72 +1,66 @@
 // What a desk does at a message.
-ghost use Rattle.std.specs.Prelude.{◌≡◌, ℕ, ◌+◌, ◌≤◌, [], length, take, drop};
+ghost use Rattle.std.specs.Prelude.{◌≡◌, ℕ};
 ghost use Rattle.promise.specs.Bytes.{Bytes};
 ghost use Rattle.codec.specs.Messages.{decode_msg};
-ghost use Rattle.asking.specs.Desk.{welcome, response_by};
-ghost use Rattle.asking.specs.House.{is_session};
-ghost use Rattle.desk_side.specs.Desks.{desk_in, Did, heard};
 
-use crate::desk::Desk;
-use crate::output::Output;
-use crate::slot::Which;
-use ids::{Clock, Nonce, Seq, Session, SlotId};
+use crate::say::Say;
+use crate::slot::{Place, Which};
+use crate::state::Asking;
+use ids::{Nonce, RequestId, Session};
 use messages::{Message, read_message};
 
-impl Desk {
-    fn hear_welcome(&mut self, nonce: Nonce, session: Session, clock: Clock)
-        requires { self.old.outputs.items ≡ [] }
-        ensures did { (b : Bytes) → Did self.new b (welcome clock.0 nonce.0 session.0 (desk_in self.old)) }
-        ensures retry { self.new.retry ≡ self.old.retry }
+// Where a Response's answer begins.
+const RESPONSE_HEAD: usize = 38;
+
+impl Asking {
+    ghost use Rattle.std.specs.Prelude.{take, drop};
+    ghost use Rattle.asking.specs.Desk.{welcome, response_by};
+    ghost use Rattle.asking.specs.House.{is_session};
+    ghost use Rattle.desk_side.specs.Said.{said, heard};
+    ghost use Rattle.desk_side.specs.View.{desk_of};
+
+    fn hear_welcome(&mut self, nonce: Nonce, session: Session) -> Say
+        ensures { (t : ℕ) (b : Bytes) → said result t b self.new ≡ welcome t nonce.0 session.0 (desk_of self.old) }
     {
-        let asking = self.asking;
-        if asking.is_mine(nonce, session) {
-            self.asking = asking.adopt(session);
-            self.ask(Which::NotSent, clock);
+        if !self.is_mine(nonce, session) {
+            return Say::Nothing;
+        }
+        self.adopt(session);
+        Say::Requests {
+            which: Which::NotSent,
         }
     }
 
     // The answer is `len` bytes of the message that came, from `start` on.
-    fn hear_response(&mut self, session: Session, slot: SlotId, seq: Seq, start: usize, len: usize)
-        requires { self.old.outputs.items ≡ [] }
-        ensures did { (b : Bytes) → Did self.new b (response_by slot.0 seq.0 (take len (drop start b)) (is_session session.0 self.old.asking.session.0) (desk_in self.old)) }
-        ensures retry { self.new.retry ≡ self.old.retry }
+    fn hear_response(&mut self, request: RequestId, start: usize, len: usize) -> Say
+        ensures { (t : ℕ) (b : Bytes) → said result t b self.new ≡ response_by request.slot.0 request.seq.0 (take len (drop start b)) (is_session request.session.0 (desk_of self.old).session) (desk_of self.old) }
     {
-        let asking = self.asking;
-        if asking.is_session(session) {
-            match asking.waiting(slot, seq) {
-                Some(number) => {
-                    self.outputs
-                        .push_reserved(Output::Tell { number, start, len });
-                    self.asking = asking.settle(slot, seq);
-                }
-                None => {}
-            }
+        if !self.is_session(request.session) {
+            return Say::Nothing;
         }
+        let Some(place) = Place::at(request.slot, request.seq) else {
+            return Say::Nothing;
+        };
+        let Some(number) = self.waiting(place) else {
+            return Say::Nothing;
+        };
+        self.settle(place);
+        Say::Tell { number, start, len }
     }
 
-    pub(crate) fn hear(&mut self, bytes: &[u8], clock: Clock)
-        requires { self.old.outputs.items ≡ [] }
-        ensures did { Did self.new bytes.now (heard clock.0 (decode_msg bytes.now) (desk_in self.old)) }
-        ensures retry { self.new.retry ≡ self.old.retry }
+    pub(crate) fn hear(&mut self, bytes: &[u8]) -> Say
+        ensures { (t : ℕ) → said result t bytes.now self.new ≡ heard t (decode_msg bytes.now) (desk_of self.old) }
     {
         let Some(message) = read_message(bytes) else {
-            return;
+            return Say::Nothing;
         };
         match message {
-            Message::Welcome { nonce, session } => self.hear_welcome(nonce, session, clock),
-            Message::Response {
-                session,
-                slot,
-                seq,
-                ..
-            } => {
-                // the answer goes to the end
-                let start = 38.min(bytes.len());
-                self.hear_response(session, slot, seq, start, bytes.len() - start);
+            Message::Welcome { nonce, session } => self.hear_welcome(nonce, session),
+            Message::Response { request, .. } => {
+                let start = RESPONSE_HEAD.min(bytes.len());
+                self.hear_response(request, start, bytes.len() - start)
             }
-            Message::Hello { .. } => {}
-            Message::Request { .. } => {}
-            Message::Alive { .. } => {}
+            Message::Hello { .. } | Message::Request { .. } | Message::Alive { .. } => Say::Nothing,
         }
     }
 }

@@ -1,170 +1,169 @@
-// What a desk knows of its asking: a value that is changed and handed back.
-ghost use Rattle.std.specs.Prelude.{◌≡◌, ℕ, ◌<◌, List, length, IfSome, OnSome};
-ghost use Rattle.promise.specs.Bytes.{Bytes};
-ghost use Rattle.asking.specs.Desk.{first_idle};
-ghost use Rattle.asking.specs.House.{is_session};
-ghost use Rattle.desk_side.specs.Slots.{all_idle, any_passes};
-ghost use Rattle.desk_side.specs.Steps.{begun, taken, spoke_now, adopting, is_mine, is_silent, asked, started_over, waits, settled};
-ghost use Rattle.desk_side.specs.View.{slots_of, free_slot};
+// What a desk knows of its asking.
+ghost use Rattle.std.specs.Prelude.{◌≡◌, ◌≢◌, not, ◌&&◌, ◌==◌, ◌<◌, is_some, if◌then◌else◌, IfSome};
+ghost use Rattle.std.specs.List.{list_all, list_any, position_from};
+ghost use Rattle.std.specs.Option.{ForSome};
+ghost use Rattle.desk_side.specs.Sessions.{session_of};
 
-use crate::slot::{Slot, Which};
-use crate::slots::*;
+use crate::requests::Requests;
+use crate::slot::{Place, SLOTS, Slot, Which, change_each};
 use ids::{CallNumber, Clock, Nonce, Seq, Session, SlotId};
 
-// session: 0 for none; answered: in this incarnation; spoke: when it last said anything; may_hold: may it have something in hand
-#[derive(Clone, Copy)]
+// What stands in a message for no session.
+const NO_SESSION: Session = Session(0);
+
+// How long a desk that may have something in hand is silent at most, in milliseconds.
+const LONGEST_SILENCE: u64 = 20_000;
+
+// session: what the house gave it; answered: in this incarnation; spoke: when it last said anything; may_hold: may it have something in hand
+#[derive(Drop)]
 pub(crate) struct Asking {
     pub(crate) nonce: Nonce,
-    pub(crate) session: Session,
+    pub(crate) session: Option<Session>,
     pub(crate) answered: bool,
     pub(crate) spoke: Clock,
     pub(crate) may_hold: bool,
-    pub(crate) slots: [Slot; 8],
+    pub(crate) slots: [Slot; SLOTS],
+    pub(crate) requests: Requests,
+    ghost given: { ForSome session (λ s. s.0 ≢ 0) },
+}
+
+// The session of a message, if it is one.
+fn given(session: Session) -> Option<Session>
+    ensures number { session_of result ≡ session.0 }
+    ensures given { ForSome result (λ s. s.0 ≢ 0) }
+{
+    (session != NO_SESSION).then_some(session)
 }
 
 impl Asking {
-    pub(crate) fn begin(nonce: Nonce, clock: Clock) -> Asking
-        ensures { result ≡ begun nonce clock }
+    ghost use Rattle.asking.specs.Desk as m;
+    ghost use Rattle.asking.specs.House.{is_session};
+    ghost use Rattle.desk_side.specs.Slots.{passes, is_idle, is_passing};
+    ghost use Rattle.desk_side.specs.View.{desk_of, free_place, requests_in};
+    ghost use Rattle.desk_side.specs.Steps.{silent, asked, waits, settled, started_over};
+
+    pub(crate) fn begin(nonce: Nonce, clock: Clock, requests: Requests) -> Asking
+        ensures { desk_of result ≡ m.desk_begins nonce.0 clock.0 }
     {
         Asking {
             nonce,
-            session: Session(0),
+            session: None,
             answered: false,
             spoke: clock,
             may_hold: false,
-            slots: [Slot::Idle { seq: Seq(0) }; 8],
+            slots: [Slot {
+                seq: Seq(0),
+                waiting: None,
+            }; SLOTS],
+            requests,
         }
+    }
+
+    // Its session, as messages say it.
+    pub(crate) fn session_said(&self) -> Session
+        ensures { result.0 ≡ session_of self.now.session }
+    {
+        self.session.unwrap_or(NO_SESSION)
+    }
+
+    fn first_idle(&self) -> Option<usize>
+        ensures value { result ≡ position_from is_idle 0 self.now.slots }
+        ensures bound { IfSome result (λ j. j < 8) }
+    {
+        self.slots.iter().position(|slot| slot.is_idle())
     }
 
     // The first slot that is idle, and the seq of its last call.
-    pub(crate) fn free(self) -> Option<(SlotId, Seq)>
-        ensures value { (ps : List Bytes) → first_idle 0 (slots_of self.slots ps) ≡ free_slot result }
-        ensures bound { IfSome result (λ x. x.0.0 < 8) }
+    pub(crate) fn free(&self) -> Option<Place>
+        ensures { m.first_idle 0 (desk_of self.now).slots ≡ free_place result }
     {
-        match first_idle(&self.slots) {
-            Some((j, seq)) => Some((SlotId(j as u8), seq)),
-            None => None,
-        }
+        let j = self.first_idle()?;
+        Some(Place {
+            slot: SlotId(j as u8),
+            seq: self.slots[j].seq,
+        })
     }
 
-    pub(crate) fn none_waits(self) -> bool
-        ensures { result ≡ all_idle self.slots }
+    pub(crate) fn none_waits(&self) -> bool
+        ensures { result ≡ list_all is_idle self.now.slots }
     {
-        all_idle(&self.slots)
+        self.slots.iter().all(|slot| slot.is_idle())
     }
 
-    pub(crate) fn any_asked(self, which: Which) -> bool
-        ensures { result ≡ any_passes which self.slots }
+    // Whether any call is to be asked for.
+    pub(crate) fn any_asked(&self, which: Which) -> bool
+        ensures { result ≡ list_any (is_passing which) self.now.slots }
     {
-        any_asked(&self.slots, which)
-    }
-
-    pub(crate) fn take_call(
-        mut self,
-        clock: Clock,
-        number: CallNumber,
-        slot: SlotId,
-        seq: Seq,
-        grabs: bool,
-    ) -> Asking
-        requires { slot.0 < 8 }
-        ensures { result ≡ taken clock number slot seq grabs self }
-    {
-        let sent = self.session.0 != 0;
-        self.slots[slot.0 as usize] = Slot::Waiting {
-            seq,
-            number,
-            sent,
-            first: clock,
-            last: clock,
-        };
-        self.may_hold = self.may_hold || grabs;
-        self
-    }
-
-    pub(crate) fn speak(mut self, clock: Clock) -> Asking
-        ensures { result ≡ spoke_now clock self }
-    {
-        self.spoke = clock;
-        self
-    }
-
-    // Under another session than before nothing counts as sent.
-    pub(crate) fn adopt(mut self, session: Session) -> Asking
-        ensures { result ≡ adopting session self }
-    {
-        if session.0 == self.session.0 {
-            return self;
-        }
-        all_unsent(&mut self.slots);
-        self.session = session;
-        self
-    }
-
-    pub(crate) fn is_mine(self, nonce: Nonce, session: Session) -> bool
-        ensures { result ≡ is_mine nonce session self }
-    {
-        nonce.0 == self.nonce.0 && session.0 != 0 && !self.answered
-    }
-
-    pub(crate) fn is_session(self, session: Session) -> bool
-        ensures { result ≡ is_session session.0 self.session.0 }
-    {
-        session.0 != 0 && session.0 == self.session.0
+        self.slots.iter().any(|slot| slot.is_asked(which))
     }
 
     // Whether it may have something in hand, and has said nothing for long.
-    pub(crate) fn is_silent(self, clock: Clock) -> bool
-        ensures { result ≡ is_silent clock self }
+    pub(crate) fn is_silent(&self, clock: Clock) -> bool
+        ensures { result ≡ silent clock.0 (desk_of self.now) }
     {
-        self.session.0 != 0 && self.may_hold && clock.0.saturating_sub(self.spoke.0) >= 20_000
+        self.session.is_some()
+            && self.may_hold
+            && clock.0.saturating_sub(self.spoke.0) >= LONGEST_SILENCE
+    }
+
+    pub(crate) fn is_mine(&self, nonce: Nonce, session: Session) -> bool
+        ensures { result ≡ (nonce.0 == self.now.nonce.0 && (not (session.0 == 0) && not self.now.answered)) }
+    {
+        nonce == self.nonce && session != NO_SESSION && !self.answered
+    }
+
+    pub(crate) fn is_session(&self, session: Session) -> bool
+        ensures { result ≡ is_session session.0 (desk_of self.now).session }
+    {
+        self.session == Some(session)
+    }
+
+    // Under another session than before nothing counts as sent.
+    pub(crate) fn adopt(&mut self, session: Session)
+        ensures { desk_of self.new ≡ m.adopts_by session.0 (session.0 == session_of self.old.session) (desk_of self.old) }
+    {
+        let session = given(session);
+        if self.session != session {
+            change_each(&mut self.slots, |slot| slot.unsent());
+            self.session = session;
+        }
+    }
+
+    // A Hello is said for all that waits.
+    pub(crate) fn start_over(&mut self, clock: Clock)
+        ensures { desk_of self.new ≡ started_over clock.0 (desk_of self.old) }
+    {
+        change_each(&mut self.slots, |slot| slot.unsent_now(clock));
     }
 
     // All that was to be asked for was asked for now.
-    pub(crate) fn ask(mut self, which: Which, clock: Clock) -> Asking
-        ensures { result ≡ asked which clock self }
+    pub(crate) fn count_sent(&mut self, which: Which, clock: Clock)
+        ensures asked { desk_of self.new ≡ asked (passes which) (list_any (is_passing which) self.old.slots) clock.0 (desk_of self.old) }
+        ensures requests { requests_in self.new.requests ≡ requests_in self.old.requests }
     {
-        if any_asked(&self.slots, which) {
+        if self.any_asked(which) {
             self.spoke = clock;
         }
-        all_sent_now(&mut self.slots, which, clock);
-        self
+        change_each(&mut self.slots, |slot| slot.sent_now(which, clock));
     }
 
-    // A Hello was said for all that waits.
-    pub(crate) fn start_over(mut self, clock: Clock) -> Asking
-        ensures { result ≡ started_over clock self }
+    // The number of the call that waits in just this place.
+    pub(crate) fn waiting(&self, place: Place) -> Option<CallNumber>
+        ensures { result ≡ waits place.slot.0 place.seq self.now.slots }
     {
-        all_unsent_now(&mut self.slots, clock);
-        self.spoke = clock;
-        self
+        let slot = self.slots[usize::from(place.slot.0)];
+        let waiting = slot.waiting.filter(|_| slot.seq == place.seq)?;
+        Some(waiting.number)
     }
 
-    // The number of the call that waits in the slot under just this seq.
-    pub(crate) fn waiting(self, slot: SlotId, seq: Seq) -> Option<CallNumber>
-        ensures value { result ≡ waits slot.0 seq self }
-        ensures bound { OnSome result (slot.0 < 8) }
+    // Its call was answered.
+    pub(crate) fn settle(&mut self, place: Place)
+        ensures { desk_of self.new ≡ settled place.slot.0 place.seq.0 (desk_of self.old) }
     {
-        if slot.0 >= 8 {
-            return None;
-        }
-        let Slot::Waiting {
-            seq: last,
-            number,
-            ..
-        } = self.slots[slot.0 as usize]
-        else {
-            return None;
+        self.slots[usize::from(place.slot.0)] = Slot {
+            seq: place.seq,
+            waiting: None,
         };
-        if last.0 == seq.0 { Some(number) } else { None }
-    }
-
-    pub(crate) fn settle(mut self, slot: SlotId, seq: Seq) -> Asking
-        requires { slot.0 < 8 }
-        ensures { result ≡ settled slot.0 seq self }
-    {
-        self.slots[slot.0 as usize] = Slot::Idle { seq };
         self.answered = true;
-        self
     }
 }

@@ -5,19 +5,15 @@ ghost use Rattle.desk_side.specs.Turns.{Tells};
 use crate::output::Output;
 use ids::CallNumber;
 
+// The answer that refuses a call because eight wait already.
+const EIGHT_WAIT: [u8; 2] = [0, 11];
+
 // So many bytes from a place on, as far as there are any.
-fn cut<'a>(bytes: &'a [u8], start: usize, len: usize) -> &'a [u8]
+fn cut(bytes: &[u8], start: usize, len: usize) -> &[u8]
     ensures { result.now ≡ take len (drop start bytes.now) }
 {
-    if start > bytes.len() {
-        return &[];
-    }
-    let (_, rest) = bytes.split_at(start);
-    if len > rest.len() {
-        return rest;
-    }
-    let (part, _) = rest.split_at(len);
-    part
+    let rest = bytes.get(start..).unwrap_or(&[]);
+    rest.get(..len).unwrap_or(rest)
 }
 
 // The answer that an output tells, out of the message that came; none for a message to the house.
@@ -25,10 +21,8 @@ pub fn told<'a>(output: Output, came: &'a [u8]) -> Option<(CallNumber, &'a [u8])
     ensures { Tells came.now output result }
 {
     match output {
-        Output::Hello => None,
-        Output::Alive => None,
-        Output::Request { .. } => None,
+        Output::Hello | Output::Alive | Output::Request { .. } => None,
         Output::Tell { number, start, len } => Some((number, cut(came, start, len))),
-        Output::Busy { number } => Some((number, &[0, 11])),
+        Output::Busy { number } => Some((number, &EIGHT_WAIT)),
     }
 }

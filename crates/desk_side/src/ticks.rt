@@ -1,44 +1,40 @@
 // What a desk does at a beat of its clock.
-ghost use Rattle.std.specs.Prelude.{◌≡◌, []};
+ghost use Rattle.std.specs.Prelude.{◌≡◌, ℕ};
 ghost use Rattle.promise.specs.Bytes.{Bytes};
-ghost use Rattle.asking.specs.Desk as m;
-ghost use Rattle.desk_side.specs.Desks.{desk_in, Did};
 
-use crate::desk::Desk;
+use crate::say::Say;
 use crate::slot::Which;
+use crate::state::Asking;
 use ids::Clock;
 
-impl Desk {
+impl Asking {
+    ghost use Rattle.asking.specs.Desk as m;
+    ghost use Rattle.desk_side.specs.Said.{said};
+    ghost use Rattle.desk_side.specs.View.{desk_of};
+
     // Says that it is there, if it may have something in hand and has said nothing for long.
-    fn keep_alive(&mut self, clock: Clock)
-        requires { self.old.outputs.items ≡ [] }
-        ensures did { (b : Bytes) → Did self.new b (m.alive clock.0 (desk_in self.old)) }
-        ensures retry { self.new.retry ≡ self.old.retry }
+    fn keep_alive(&self, clock: Clock) -> Say
+        ensures { (b : Bytes) → said result clock.0 b self.now ≡ m.alive clock.0 (desk_of self.now) }
     {
-        let asking = self.asking;
-        if asking.is_silent(clock) {
-            self.alive();
-            self.asking = asking.speak(clock);
+        if self.is_silent(clock) {
+            Say::Alive
+        } else {
+            Say::Nothing
         }
     }
 
-    pub(crate) fn tick(&mut self, clock: Clock)
-        requires { self.old.outputs.items ≡ [] }
-        ensures did { (b : Bytes) → Did self.new b (m.desk_tick self.old.retry clock.0 (desk_in self.old)) }
-        ensures retry { self.new.retry ≡ self.old.retry }
+    // Calls that are due are asked for anew. As long as the house has not answered, one Hello says that all of them wait.
+    pub(crate) fn tick(&mut self, retry: u64, clock: Clock) -> Say
+        ensures { (b : Bytes) → said result clock.0 b self.new ≡ m.desk_tick retry clock.0 (desk_of self.old) }
     {
-        let asking = self.asking;
-        let due = Which::Due {
-            retry: self.retry,
-            clock,
-        };
-        if !asking.any_asked(due) {
-            self.keep_alive(clock);
-        } else if asking.answered {
-            self.ask(due, clock);
-        } else {
-            self.hello();
-            self.asking = asking.start_over(clock);
+        let due = Which::Due { retry, clock };
+        if !self.any_asked(due) {
+            return self.keep_alive(clock);
         }
+        if self.answered {
+            return Say::Requests { which: due };
+        }
+        self.start_over(clock);
+        Say::Hello
     }
 }

@@ -1,34 +1,62 @@
 // The turn of a desk: something comes, and it has done something and knows something else then.
 ghost use Rattle.std.specs.Prelude.{◌≡◌};
-ghost use Rattle.desk_side.specs.Desks.{desk_in, outs_in, Did, settings};
-ghost use Rattle.desk_side.specs.Turns.{comes_of, came_of, turn_of, AsModel};
 
 use crate::desk::Desk;
+use crate::memory::Memory;
 use crate::output::Event;
-use ids::Clock;
+use crate::say::Say;
+use crate::state::Asking;
+use ids::{Clock, DeskId};
 
-impl Desk {
-    fn come(&mut self, event: Event<'_>, clock: Clock)
-        ensures did { Did self.new (came_of event.entry) (turn_of (settings self.old.retry) (comes_of event.entry) clock.0 (desk_in self.old)) }
-        ensures retry { self.new.retry ≡ self.old.retry }
+// From whom a desk hears.
+const HOUSE: DeskId = DeskId(0);
+
+impl Asking {
+    ghost use Rattle.desk_side.specs.Desks.{settings};
+    ghost use Rattle.desk_side.specs.Said.{said};
+    ghost use Rattle.desk_side.specs.Turns.{comes_of, came_of, turn_of};
+    ghost use Rattle.desk_side.specs.View.{desk_of};
+
+    // What it decides to say at what comes, and knows then.
+    fn come(&mut self, event: Event<'_>, retry: u64, clock: Clock) -> Say
+        ensures { said result clock.0 (came_of event.entry) self.new ≡ turn_of (settings retry) (comes_of event.entry) clock.0 (desk_of self.old) }
     {
-        self.outputs.clear();
         match event {
             Event::Message { from, bytes } => {
-                if from.0 == 0 {
-                    self.hear(bytes, clock);
+                if from == HOUSE {
+                    self.hear(bytes)
+                } else {
+                    Say::Nothing
                 }
             }
             Event::Call { number, call } => self.call(number, call, clock),
-            Event::Tick => self.tick(clock),
+            Event::Tick => self.tick(retry, clock),
         }
     }
+}
+
+impl Memory {
+    ghost use Rattle.desk_side.specs.Desks.{Did, settings};
+    ghost use Rattle.desk_side.specs.Turns.{comes_of, came_of, turn_of};
+    ghost use Rattle.desk_side.specs.View.{desk_of};
+
+    fn turn(&mut self, event: Event<'_>, retry: u64, clock: Clock)
+        ensures { Did self.new (came_of event.entry) (turn_of (settings retry) (comes_of event.entry) clock.0 (desk_of self.old.asking)) }
+    {
+        let say = self.asking.come(event, retry, clock);
+        self.say(say, clock);
+    }
+}
+
+impl Desk {
+    ghost use Rattle.desk_side.specs.Desks.{desk_in, outs_in, settings};
+    ghost use Rattle.desk_side.specs.Turns.{comes_of, came_of, AsModel};
 
     // What it did is in its outputs, until the next turn. Noise, and what does not come from the house, leaves all as it was.
     pub fn turn(&mut self, event: Event<'_>, clock: Clock)
         ensures model { AsModel (settings self.old.retry) (comes_of event.entry) clock.0 (desk_in self.old) (outs_in self.new (came_of event.entry)) (desk_in self.new) }
         ensures retry { self.new.retry ≡ self.old.retry }
     {
-        self.come(event, clock);
+        self.memory.turn(event, self.retry, clock);
     }
 }

@@ -3,8 +3,6 @@ use Rattle.desk_side.specs.Turns.{comes_of, came_of}
 use Rattle.desk_side.proofs.Turned.{as_model}
 use Rattle.desk_side.proofs.desk.Desk.turn.Goals as goal
 
-pub returns : goal.returns
-returns c = record {
-  model = as_model (settings c.args.self.now.retry) (comes_of c.args.event) c.args.clock.0 (desk_in c.args.self.now) c.come.new.self (came_of c.args.event) c.come.ensures.did;
-  retry = c.come.ensures.retry;
-}
+pub returns-clause-model : goal.returns-clause-model
+returns-clause-model c =
+    as_model (settings c.args.self.now.retry) (comes_of c.args.event) c.args.clock.0 (desk_in c.args.self.now) (record { retry = c.args.self.now.retry; memory = c.turn.new.self }) (came_of c.args.event) c.turn.ensures

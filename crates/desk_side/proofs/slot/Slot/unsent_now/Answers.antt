@@ -1,0 +1,11 @@
+use Rattle.std.proofs.Common.{◌≡◌, false, ap, ◌∙◌, rules}
+use Rattle.std.specs.Option.{option_map}
+use Rattle.desk_side.specs.declared.slot.Waiting.{Waiting}
+use Rattle.desk_side.specs.Slots.{slot_with}
+use Rattle.desk_side.proofs.Agree.{unsent_now_with}
+use Rattle.desk_side.proofs.slot.Slot.unsent_now.Goals as goal
+
+pub returns : goal.returns
+returns c = λ part.
+    let e : c.map.result ≡ option_map (λ (x : Waiting). record x { sent = false; last = c.args.clock }) c.args.self.waiting = search rules in
+    ap (slot_with c.args.self.seq part) e ∙ unsent_now_with c.args.clock c.args.self.seq part c.args.self.waiting

@@ -1,6 +1,0 @@
-use Rattle.std.proofs.Common.{◌≡◌, ◌++◌, map, take, drop}
-use Rattle.desk_side.specs.Slots.{unsent_now}
-use Rattle.desk_side.proofs.slots.all_unsent_now.Given as goal
-
-abbrev pub invariant-loop-i : goal.invariant-loop-i
-invariant-loop-i l = l.slots ≡ map (unsent_now l.clock) (take l.i l.initial.slots) ++ drop l.i l.initial.slots
