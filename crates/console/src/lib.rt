@@ -7,6 +7,7 @@ ghost use Rattle.std.specs.Prelude.{◌≡◌, [], IfOk, OnOk};
 use anyhow::anyhow;
 use input::LineBuffer;
 use std::alloc::AllocError;
+use std::fmt::Display;
 use std::io::{Read, Write};
 use std::rt::{Stderr, Stdout};
 use std::{env, io};
@@ -22,6 +23,8 @@ const CHUNK: usize = 65_536;
 #[derive(Drop)]
 pub struct Console {
     pub text: Vec<u8>,
+    // the number of the line in hand
+    line: u64,
     out: Stdout,
     err: Stderr,
 }
@@ -34,121 +37,114 @@ impl Console {
         let text = Vec::with_capacity(rt.alloc(), LONGEST_LINE)?;
         let out = rt.stdout();
         let err = rt.stderr();
-        Ok(Console { text, out, err })
+        Ok(Console {
+            text,
+            line: 0,
+            out,
+            err,
+        })
     }
 
     // Prints `text` on standard output, and empties it.
     pub fn say(&mut self) -> io::Result<()>
         ensures { OnOk result (self.new.text.items ≡ []) }
     {
-        self.out.write_all(self.text.as_slice())?;
-        self.text.clear();
-        self.out.flush()
+        print(&mut self.text, &mut self.out)
     }
 
     // Prints `text` on standard error, and empties it.
     pub fn complain(&mut self) -> io::Result<()>
         ensures { OnOk result (self.new.text.items ≡ []) }
     {
-        self.err.write_all(self.text.as_slice())?;
-        self.text.clear();
-        Ok(())
+        print(&mut self.text, &mut self.err)
+    }
+
+    // Reports the line in hand, which says nothing, with its number and why.
+    pub fn report<D: Display + Drop>(&mut self, why: D) -> io::Result<()> {
+        let number = self.line;
+        write!(&mut self.text, "line {number}: {why}\n")?;
+        self.complain()
     }
 }
 
+fn print<W: Write>(text: &mut Vec<u8>, to: &mut W) -> io::Result<()>
+    ensures { OnOk result (text.new.items ≡ []) }
+{
+    to.write_all(text.as_slice())?;
+    text.clear();
+    to.flush()
+}
+
+// What a program does with each line. A trait, and no closure: to pass one is to owe that it may be called, and public functions require nothing.
 pub trait Handler {
     // A line, without its newline.
-    fn line(&mut self, number: u64, line: &[u8], console: &mut Console) -> io::Result<()>;
+    fn line(&mut self, line: &[u8], console: &mut Console) -> io::Result<()>;
 }
 
-// Says that a line was too long.
-fn too_long(number: u64, console: &mut Console) -> io::Result<()> {
-    write!(
-        &mut console.text,
-        "line {number}: longer than {LONGEST_LINE} bytes, passed over"
-    )?;
-    console.complain()
+// Standard input as far as it was read: the line that is being read, and what its lines are handed to.
+#[derive(Drop)]
+struct Lines<'a, H> {
+    handler: &'a mut H,
+    buffer: LineBuffer,
+    console: Console,
 }
 
-// Hands a line that is complete to the handler.
-fn complete<H: Handler>(
-    handler: &mut H,
-    number: u64,
-    buffer: &mut LineBuffer,
-    console: &mut Console,
-) -> io::Result<()> {
-    match buffer.line() {
-        Some(line) => handler.line(number, line, console)?,
-        None => report(number, "it is too long", console)?,
+impl<H: Handler> Lines<'_, H> {
+    // Hands a line that is complete to the handler.
+    fn complete(&mut self) -> io::Result<()> {
+        self.console.line = self.console.line.saturating_add(1);
+        match self.buffer.line() {
+            Some(line) => self.handler.line(line, &mut self.console)?,
+            None => self.console.report("it is too long")?,
+        }
+        self.buffer.clear();
+        Ok(())
     }
-    buffer.clear();
-    Ok(())
-}
 
-// Handles the lines that a chunk of input completes; says how many lines there were by then.
-fn chunk_lines<H: Handler>(
-    handler: &mut H,
-    before: u64,
-    chunk: &[u8],
-    buffer: &mut LineBuffer,
-    console: &mut Console,
-) -> io::Result<u64> {
-    let mut number = before;
-    let mut rest = chunk;
-    while let Some(used) = buffer.feed(rest) {
-        number = number.saturating_add(1);
-        complete(handler, number, buffer, console)?;
-        let (_, behind) = rest.split_at(used);
-        rest = behind;
+    // Handles the lines that a chunk of input completes.
+    fn feed(&mut self, chunk: &[u8]) -> io::Result<()> {
+        let mut rest = chunk;
+        while let Some(used) = self.buffer.feed(rest) {
+            self.complete()?;
+            rest = &rest[used..];
+        }
+        Ok(())
     }
-    Ok(number)
-}
 
-// The last line counts also where no newline ends it.
-fn last_line<H: Handler>(
-    handler: &mut H,
-    before: u64,
-    buffer: &mut LineBuffer,
-    console: &mut Console,
-) -> io::Result<()> {
-    if let Some([]) = buffer.line() {
-        return Ok(());
+    // The last line counts also where no newline ends it.
+    fn end(&mut self) -> io::Result<()> {
+        match self.buffer.line() {
+            Some([]) => Ok(()),
+            _ => self.complete(),
+        }
     }
-    complete(handler, before.saturating_add(1), buffer, console)
 }
 
 // Handles every line of standard input, to its end.
 pub fn handle_lines<H: Handler>(rt: &HostRuntime, handler: &mut H) -> io::Result<()> {
     let heap = rt.alloc();
-    let mut console = Console::reserve(rt)?;
-    let mut buffer = LineBuffer::reserve(heap, LONGEST_LINE)?;
+    let mut lines = Lines {
+        handler,
+        buffer: LineBuffer::reserve(heap, LONGEST_LINE)?,
+        console: Console::reserve(rt)?,
+    };
     let mut chunk = vec![in heap; 0u8; CHUNK]?;
     let mut stdin = rt.stdin();
-    let mut number = 0;
     for _ in 0..u64::MAX {
         let count = stdin.read(chunk.as_mut_slice())?;
         if count == 0 {
             break;
         }
-        number = chunk_lines(handler, number, &chunk[0..count], &mut buffer, &mut console)?;
+        lines.feed(&chunk[0..count])?;
     }
-    last_line(handler, number, &mut buffer, &mut console)
+    lines.end()
 }
 
 // The numbers on the command line.
 pub fn number_arguments(rt: &HostRuntime) -> anyhow::Result<Vec<u64>> {
-    let mut numbers = Vec::new(rt.alloc());
-    for word in env::args(rt)?.skip(1) {
-        let Some(n) = read_decimal(word.as_bytes(), u64::MAX) else {
-            return Err(anyhow!("an argument is not a number"));
-        };
-        numbers.push(n)?;
-    }
-    Ok(numbers)
-}
-
-// Reports a line that says nothing, with its number and why.
-pub fn report(number: u64, why: &str, console: &mut Console) -> io::Result<()> {
-    write!(&mut console.text, "line {number}: {why}\n")?;
-    console.complain()
+    let not_a_number = || anyhow!("an argument is not a number");
+    env::args(rt)?
+        .skip(1)
+        .map(|word| read_decimal(word.as_bytes(), u64::MAX).ok_or_else(not_a_number))
+        .try_collect(rt.alloc())
 }

@@ -1,10 +1,10 @@
 // A desk as a program: lines in, lines out.
 #![tactic(auto)]
 
-use anyhow::anyhow;
-use codec::answer::{Answer, Refusal};
-use console::{Console, Handler, LONGEST_LINE, handle_lines, number_arguments, report};
-use ids::{CallNumber, Clock};
+use codec::answer::Answer;
+use console::{Console, Handler, LONGEST_LINE, handle_lines, number_arguments};
+use ids::CallNumber;
+use interim::{MonotonicClock, Waiting};
 use lines::event::read_desk;
 use lines::scratch::Event;
 use lines::shape::Scratch;
@@ -13,45 +13,30 @@ use printing::told::write_answer;
 use settings::desk_settings;
 use std::io;
 
-// How many calls wait at most.
-const SLOTS: usize = 8;
-
-// What is told where eight calls wait.
-fn eight_wait<'a>() -> Answer<'a> {
-    Answer::No(Refusal::EightWait)
-}
-
 // What it knows: so far, its clock, and how many calls wait.
 #[derive(Drop)]
 struct Desk {
-    clock: Clock,
-    waiting: usize,
+    clock: MonotonicClock,
+    waiting: Waiting,
 }
 
 impl Desk {
-    // Its clock shows this from here on; it never goes back.
-    fn set_clock(&mut self, number: u64, clock: Clock, console: &mut Console) -> io::Result<()> {
-        if clock < self.clock {
-            return report(number, "the clock goes back", console);
-        }
-        self.clock = clock;
-        Ok(())
-    }
-
-    // Eight calls wait, since nobody may be told anything before the house has answered; a further one is handed back at once.
+    // The calls that wait are never answered; one that finds no place to wait is handed back at once.
     fn call(&mut self, number: CallNumber, console: &mut Console) -> io::Result<()> {
-        if self.waiting < SLOTS {
-            self.waiting += 1;
+        let Err(refusal) = self.waiting.add() else {
             return Ok(());
-        }
-        let _ = write_answer(&mut console.text, number, eight_wait());
+        };
+        let _ = write_answer(&mut console.text, number, Answer::No(refusal));
         console.say()
     }
 
     // Messages are passed over, and no beat has anything to do, since no session is built yet.
-    fn handle(&mut self, number: u64, event: Event<'_>, console: &mut Console) -> io::Result<()> {
+    fn handle(&mut self, event: Event<'_>, console: &mut Console) -> io::Result<()> {
         match event {
-            Event::Clock(clock) => self.set_clock(number, clock, console),
+            Event::Clock(clock) => match self.clock.set(clock) {
+                Ok(()) => Ok(()),
+                Err(error) => console.report(error),
+            },
             Event::Asked(call, _) => self.call(call, console),
             Event::Sync(word) => {
                 let _ = write_sync(&mut console.text, word);
@@ -69,25 +54,23 @@ struct Program {
 }
 
 impl Handler for Program {
-    fn line(&mut self, number: u64, line: &[u8], console: &mut Console) -> io::Result<()> {
+    fn line(&mut self, line: &[u8], console: &mut Console) -> io::Result<()> {
         match read_desk(&mut self.scratch, line) {
-            Ok(shape) => self.desk.handle(number, self.scratch.event(shape), console),
-            Err(error) => report(number, error.text(), console),
+            Ok(shape) => self.desk.handle(self.scratch.event(shape), console),
+            Err(error) => console.report(error),
         }
     }
 }
 
 fn run(rt: &HostRuntime) -> anyhow::Result<()> {
-    let numbers = number_arguments(rt)?;
-    if let Err(wrong) = desk_settings(numbers.as_slice()) {
-        return Err(anyhow!(wrong.text()));
-    }
-    let scratch = Scratch::new(rt.alloc(), LONGEST_LINE)?;
-    let desk = Desk {
-        clock: Clock(0),
-        waiting: 0,
+    desk_settings(number_arguments(rt)?.as_slice())?;
+    let mut program = Program {
+        scratch: Scratch::new(rt.alloc(), LONGEST_LINE)?,
+        desk: Desk {
+            clock: MonotonicClock::new(),
+            waiting: Waiting::new(),
+        },
     };
-    let mut program = Program { scratch, desk };
     handle_lines(rt, &mut program)?;
     Ok(())
 }

@@ -1,19 +1,24 @@
 -- Lines of bytes, each ended by a newline, as they come in pieces.
 -- Assumes nothing.
-use Rattle.std.specs.Prelude.{ℕ, suc, ◌+◌, Bool, true, false, cond, ◌||◌, List, [], ◌∷◌, ◌++◌, length, take, Some, None, Option, ◌==◌, nat_lt}
+use Rattle.std.specs.Prelude.{ℕ, ◌+◌, Bool, true, false, cond, ◌||◌, List, [], ◌++◌, length, take, Some, None, Option, ◌==◌, nat_lt}
+use Rattle.std.specs.List.{position_or_len}
 
 -- what stands of a line: its bytes so far, or none of them if it grew too long
 pub record Held : Type 0 where
   pub bytes : List ℕ
   pub overlong : Bool
 
+-- a line that is being read, of so many bytes at most
+pub record Line : Type 0 where
+  pub longest : ℕ
+  pub held : Held
+
 abbrev pub nothing : Held
 nothing = record { bytes = []; overlong = false }
 
 -- how many bytes stand before the first newline, or all where there is none
-unfoldable pub line_end : List ℕ → ℕ
-line_end [] = 0
-line_end (b ∷ bs) = cond (b == 10) 0 (suc (line_end bs))
+abbrev pub line_end : List ℕ → ℕ
+line_end = position_or_len (λ b. b == 10)
 
 -- is it too long with so many bytes more
 abbrev pub too_long : (longest : ℕ) → Held → ℕ → Bool

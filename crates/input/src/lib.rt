@@ -1,7 +1,6 @@
 // Lines out of chunks of input, in memory that is reserved once.
 #![tactic(auto)]
 
-mod buffer;
 mod lines;
 
-pub use buffer::LineBuffer;
+pub use lines::LineBuffer;

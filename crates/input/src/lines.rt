@@ -1,29 +1,38 @@
-// What a line buffer does with a chunk of input.
-ghost use Rattle.std.specs.Prelude.{◌≡◌, ◌+◌, ◌<◌, ◌≤◌, ◌++◌, length, IfOk, vec_len, vec_capacity};
+// The line that is being read, and what a chunk of input adds to it.
+ghost use Rattle.std.specs.Prelude.{◌≡◌, ◌+◌, ◌<◌, ◌≤◌, ◌++◌, length, IfOk, vec_len, vec_capacity, position, ◌==◌};
 ghost use Rattle.std.specs.Option.{option_map};
-ghost use Rattle.input.specs.Lines.{nothing, line_end, grown, fed, ended, line_of};
-ghost use Rattle.input.specs.View.{held};
+ghost use Rattle.input.specs.Lines.{Line, nothing, grown, fed, ended, line_of};
 
-use crate::buffer::LineBuffer;
 use std::alloc::{AllocError, Global};
+use std::marker::Model;
 
-// How many bytes stand before the first newline.
-fn line_end(chunk: &[u8]) -> usize
-    ensures value { result ≡ line_end chunk.now }
-    ensures upper_bound { result ≤ length chunk.now }
+#[derive(Drop)]
+pub struct LineBuffer {
+    bytes: Vec<u8>,
+    // a flag, and no enum round the bytes: their memory is reserved once, and kept while a long line is passed over
+    overlong: bool,
+    longest: usize,
+}
+
+impl Model for LineBuffer {
+    ghost Value = { Line };
+
+    ghost view = { λ b. record { longest = b.longest; held = record { bytes = b.bytes.items; overlong = b.overlong } } };
+
+    ghost invariant = { λ b. (vec_len b.bytes ≤ b.longest) × (b.longest ≤ vec_capacity b.bytes) };
+}
+
+// Where the first newline stands.
+fn newline(chunk: &[u8]) -> Option<usize>
+    ensures { result ≡ position (λ b. b == 10) chunk.now }
 {
-    for (i, b) in chunk.iter().enumerate() {
-        if *b == b'\n' {
-            return i;
-        }
-    }
-    chunk.len()
+    chunk.iter().position(|b| *b == b'\n')
 }
 
 impl LineBuffer {
     // An empty buffer for lines of up to so many bytes.
     pub fn reserve(heap: Global, longest: usize) -> Result<LineBuffer, AllocError>
-        ensures { IfOk result (λ b. (held b ≡ nothing) × (b.longest ≡ longest)) }
+        ensures { IfOk result (λ b. b ≡ record { longest = longest; held = nothing }) }
     {
         let bytes = Vec::with_capacity(heap, longest)?;
         Ok(LineBuffer {
@@ -35,8 +44,7 @@ impl LineBuffer {
 
     // A further piece of the line; a line that grows too long is forgotten, so that memory stays bounded.
     fn grow(&mut self, piece: &[u8])
-        ensures line { held self.new ≡ grown self.old.longest (held self.old) piece.now }
-        ensures longest { self.new.longest ≡ self.old.longest }
+        ensures { self.new ≡ record self.old { held = grown self.old.longest self.old.held piece.now } }
     {
         if self.overlong || piece.len() > self.longest - self.bytes.len() {
             self.overlong = true;
@@ -48,31 +56,27 @@ impl LineBuffer {
 
     // Takes the chunk up to its first newline; says how much that was where the line is complete.
     pub fn feed(&mut self, chunk: &[u8]) -> Option<usize>
-        ensures line { held self.new ≡ fed self.old.longest (held self.old) chunk.now }
-        ensures longest { self.new.longest ≡ self.old.longest }
+        ensures line { self.new ≡ record self.old { held = fed self.old.longest self.old.held chunk.now } }
         ensures used { result ≡ ended chunk.now }
     {
-        let end = line_end(chunk);
-        let (piece, rest) = chunk.split_at(end);
-        self.grow(piece);
-        if rest.is_empty() { None } else { Some(end + 1) }
+        let Some(end) = newline(chunk) else {
+            self.grow(chunk);
+            return None;
+        };
+        self.grow(&chunk[..end]);
+        Some(end + 1)
     }
 
     // The line without its newline; None if it was too long.
     pub fn line(&self) -> Option<&[u8]>
-        ensures { option_map (λ x. x.now) result ≡ line_of (held self.now) }
+        ensures { option_map (λ x. x.now) result ≡ line_of self.now.held }
     {
-        if self.overlong {
-            None
-        } else {
-            Some(self.bytes.as_slice())
-        }
+        (!self.overlong).then_some(self.bytes.as_slice())
     }
 
     // Makes ready for the next line.
     pub fn clear(&mut self)
-        ensures line { held self.new ≡ nothing }
-        ensures longest { self.new.longest ≡ self.old.longest }
+        ensures { self.new ≡ record self.old { held = nothing } }
     {
         self.overlong = false;
         self.bytes.clear();

@@ -12,7 +12,6 @@ mod tests {
     use printing::print::write_to;
     use printing::told::write_answer;
     use std::test::Fail;
-    use text::word::same_bytes;
 
     #[test]
     fn lines_that_are_none(rt: HostRuntime) -> Result<(), Fail> {
@@ -28,10 +27,7 @@ mod tests {
 
     // Whether the call is to remove this sheet.
     fn removes(call: Option<Call<'_>>, sheet: &[u8]) -> bool {
-        match call {
-            Some(Call::Remove { name, .. }) => same_bytes(name, sheet),
-            _ => false,
-        }
+        matches!(call, Some(Call::Remove { name, .. }) if name == sheet)
     }
 
     #[test]
@@ -64,7 +60,7 @@ mod tests {
             )
             .is_ok()
         );
-        assert!(rt; same_bytes(out.as_slice(), b"to 3 0aff\n12 no 2\n0 names 2 a %\n"));
+        assert!(rt; out.as_slice() == b"to 3 0aff\n12 no 2\n0 names 2 a %\n".as_slice());
         Ok(())
     }
 }

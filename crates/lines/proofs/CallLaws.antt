@@ -5,7 +5,7 @@ use Rattle.std.proofs.lemmas.Slice.Eq.{bytes_eq-Decides}
 use Rattle.std.proofs.lemmas.List.{nil_from_length}
 use Rattle.promise.specs.Bytes.{Bytes, bind, ended}
 use Rattle.promise.specs.Sheets as t
-use Rattle.text.specs.Decimals.{decimal_in, decimal_text}
+use Rattle.text.specs.Decimals.{decimal_in, decimal_text, number_word}
 use Rattle.text.specs.Hex.{hex_in, hex_text}
 use Rattle.text.specs.Names.{name_in, name_text}
 use Rattle.text.specs.Words.{word_in, spaced}
@@ -13,7 +13,7 @@ use Rattle.text.proofs.NumeralLaws.{decimal_line}
 use Rattle.text.proofs.HexLaws.{hex_line}
 use Rattle.text.proofs.NameLaws.{name_line}
 use Rattle.text.proofs.WordLaws.{word_line}
-use Rattle.lines.specs.Fields.{number_word, name_word, hex_word, expect_in, expect_word, expect_text}
+use Rattle.lines.specs.Fields.{name_word, hex_word, expect_in, expect_word, expect_text}
 use Rattle.lines.specs.CallLines.{most16, most32, read_line, put_line, patch_line, remove_line, rename_line, names_line, take_line, let_line}
 use Rattle.lines.specs.EventTexts.{call_text}
 use Rattle.lines.proofs.Inverse.{some_bind, ended_is, as_line, as_last}

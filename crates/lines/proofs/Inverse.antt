@@ -3,9 +3,8 @@ use Rattle.std.proofs.Common.{◌≡◌, ℕ, Bool, true, false, cond, eqb, [], 
 use Rattle.std.specs.Option.{ok_or}
 use Rattle.std.proofs.lemmas.List.{append-nil, nil_from_length}
 use Rattle.promise.specs.Bytes.{Bytes, bind, ended}
-use Rattle.text.specs.Words.{word_in, spaced}
+use Rattle.text.specs.Words.{word_as, word_in, spaced}
 use Rattle.text.proofs.WordLaws.{word_line}
-use Rattle.lines.specs.Fields.{word_as}
 use Rattle.lines.specs.Events.{and_then, last_word}
 use Rattle.lines.specs.declared.error.LineError.{LineError}
 use Rattle.lines.specs.declared.error.LineError.TheVariants.{ExtraWord}

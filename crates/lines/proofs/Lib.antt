@@ -1,5 +1,4 @@
-pub mod Fitting
-pub mod Seen
+pub mod Letters
 pub mod Inverse
 pub mod CallLaws
 pub mod LineLaws

@@ -5,8 +5,9 @@ use Rattle.std.specs.Str.{bytes_eq}
 use Rattle.promise.specs.Bytes.{Bytes, bind, ended}
 use Rattle.promise.specs.Sheets as t
 use Rattle.codec.specs.Calls.{expect_of}
+use Rattle.text.specs.Decimals.{number_word}
 use Rattle.text.specs.Words.{word_in}
-use Rattle.lines.specs.Fields.{number_word, name_word, hex_word, expect_word}
+use Rattle.lines.specs.Fields.{name_word, hex_word, expect_word}
 use Rattle.lines.specs.declared.shape.Verb.{Verb}
 use Rattle.lines.specs.declared.shape.Verb.TheVariants as v
 use Rattle.lines.specs.declared.shape.Form.{Form}
@@ -76,7 +77,7 @@ formed s (f.Read start most) = t.Read (vec_items s.name) start most
 formed s (f.Put e) = t.Put (vec_items s.name) (vec_items s.bytes) (expect_of e)
 formed s (f.Patch at e) = t.Patch (vec_items s.name) at (vec_items s.bytes) (expect_of e)
 formed s (f.Remove e) = t.Remove (vec_items s.name) (expect_of e)
-formed s f.Rename = t.Rename (vec_items s.name) (vec_items s.new)
+formed s f.Rename = t.Rename (vec_items s.name) (vec_items s.other)
 formed s (f.Names most) = t.Names (vec_items s.name) most
 formed s (f.Take alone) = t.Take (vec_items s.name) alone
 formed s f.LetGo = t.LetGo (vec_items s.name)

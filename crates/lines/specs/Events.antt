@@ -1,14 +1,15 @@
 -- The lines that house and desks read, and what they say.
 -- Assumes nothing.
-use Rattle.std.specs.Prelude.{ℕ, Bool, true, cond, ◌&&◌, [], ◌∷◌, length, Some, None, Ok, Err, vec_items, codes, Option, Result, ◌==◌, nat_le}
+use Rattle.std.specs.Prelude.{ℕ, Bool, cond, ◌&&◌, length, Some, None, Ok, Err, vec_items, codes, Option, Result, ◌==◌, nat_le}
 use Rattle.std.specs.Borrow.{Bor}
 use Rattle.std.specs.Str.{bytes_eq}
+use Rattle.std.specs.List.{list_all}
 use Rattle.std.specs.Option.{option_map, ok_or}
 use Rattle.promise.specs.Bytes.{Bytes, bind}
 use Rattle.promise.specs.Sheets as t
 use Rattle.text.specs.Decimals.{decimal_in}
 use Rattle.text.specs.Hex.{hex_in}
-use Rattle.text.specs.Words.{first_in, word_in}
+use Rattle.text.specs.Words.{both, first_in, word_in}
 use Rattle.lines.specs.CallLines.{verb_in, call_line, formed}
 use Rattle.lines.specs.declared.error.LineError.{LineError}
 use Rattle.lines.specs.declared.error.LineError.TheVariants.{UnknownWord, MissingWord, ExtraWord, BadNumber, BadHex, BadWord}
@@ -61,8 +62,7 @@ is_seen b = nat_le 33 b && nat_le b 126
 
 -- each byte can be seen
 abbrev pub all_seen : Bytes → Bool
-all_seen [] = true
-all_seen (b ∷ bs) = is_seen b && all_seen bs
+all_seen w = list_all is_seen w
 
 abbrev pub sync_line : Bytes → Result Event LineError
 sync_line b = and_then (needed b) (λ w. cond (all_seen w.0) (last_word (Sync w.0) w.1) (Err BadWord))
@@ -91,6 +91,10 @@ desk_line line = and_then (ok_or (first_in line) MissingWord) (λ w. asked_or (a
 
 abbrev pub asked_view : ℕ × Verb × Bor Bytes → ℕ × (Verb × Bytes)
 asked_view x = (x.0, (x.1, x.2.now))
+
+abbrev pub begun : Result (Bor Bytes × Bor Bytes) LineError → Result (Bytes × Bytes) LineError
+begun (Ok x) = Ok (both x)
+begun (Err e) = Err e
 
 -- a shape with its names and bytes
 abbrev pub shape_of : Scratch → Shape → Event

@@ -1,5 +1,5 @@
 // The buffers that a line is read into, and what they say with the line's shape.
-ghost use Rattle.std.specs.Prelude.{◌≡◌, true, IfOk, Decides};
+ghost use Rattle.std.specs.Prelude.{◌≡◌, ◌≤◌, ◌↔◌, IfOk, IsTrue};
 ghost use Rattle.codec.specs.Calls.{call_of};
 ghost use Rattle.lines.specs.CallLines.{formed};
 ghost use Rattle.lines.specs.Events.{shape_of};
@@ -24,9 +24,9 @@ pub enum Event<'a> {
 }
 
 pub(crate) fn has_room(s: &Scratch, size: usize) -> bool
-    ensures { Decides result (Roomy s.entry.now size) }
+    ensures { IsTrue result ↔ Roomy s.now size }
 {
-    s.name.capacity() >= LONGEST && s.new.capacity() >= LONGEST && s.bytes.capacity() >= size
+    s.bytes.capacity() >= size
 }
 
 impl Scratch {
@@ -35,16 +35,16 @@ impl Scratch {
         ensures { IfOk result (λ s. Roomy s size) }
     {
         let name = Vec::with_capacity(heap, LONGEST)?;
-        let new = Vec::with_capacity(heap, LONGEST)?;
+        let other = Vec::with_capacity(heap, LONGEST)?;
         let bytes = Vec::with_capacity(heap, size)?;
-        Ok(Scratch { name, new, bytes })
+        Ok(Scratch { name, other, bytes })
     }
 
     fn call<'a>(&'a self, form: Form) -> Call<'a>
-        ensures { call_of result ≡ formed self.entry.now form }
+        ensures { call_of result ≡ formed self.now form }
     {
         let name = self.name.as_slice();
-        let new = self.new.as_slice();
+        let new = self.other.as_slice();
         let bytes = self.bytes.as_slice();
         match form {
             Form::Read { start, most } => Call::Read { name, start, most },
@@ -69,7 +69,7 @@ impl Scratch {
 
     // What the line that was read last says; `shape` is what its reader gave.
     pub fn event<'a>(&'a self, shape: Shape) -> Event<'a>
-        ensures { event_of result ≡ shape_of self.entry.now shape }
+        ensures { event_of result ≡ shape_of self.now shape }
     {
         match shape {
             Shape::Clock(time) => Event::Clock(time),

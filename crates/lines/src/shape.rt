@@ -1,4 +1,6 @@
 // What a line says, with its names and bytes in buffers beside it.
+ghost use Rattle.std.specs.Prelude.{◌≡◌, vec_capacity};
+
 use codec::call::Expect;
 use ids::{CallNumber, Clock};
 
@@ -42,10 +44,12 @@ pub enum Shape {
     Asked(CallNumber, Option<Form>),
 }
 
-// Where names and bytes of a line are written: two names, and bytes.
+// Where names and bytes of a line are written: two names, each with room for the longest, and bytes.
 #[derive(Drop)]
 pub struct Scratch {
     pub(crate) name: Vec<u8>,
-    pub(crate) new: Vec<u8>,
+    pub(crate) other: Vec<u8>,
     pub(crate) bytes: Vec<u8>,
+    ghost name_room: { vec_capacity name ≡ 255 },
+    ghost other_room: { vec_capacity other ≡ 255 },
 }

@@ -1,7 +1,7 @@
 -- Answers as lines: the call's number, and what it is told.
 -- Assumes nothing.
-use Rattle.std.specs.Prelude.{ℕ, zero, suc, cond, List, [], ◌∷◌, ◌++◌, length, drop, Some, None, codes, Option, nat_lt, slice_index}
-use Rattle.promise.specs.Bytes.{Bytes, part_in}
+use Rattle.std.specs.Prelude.{ℕ, zero, suc, List, [], ◌∷◌, ◌++◌, length, Some, None, codes, Option}
+use Rattle.promise.specs.Bytes.{Bytes, lengthed_in}
 use Rattle.promise.specs.Sheets as t
 use Rattle.codec.specs.Answers.{refusal_number}
 use Rattle.codec.specs.declared.answer.Answer.{Answer}
@@ -14,7 +14,7 @@ use Rattle.printing.specs.Printed.{newline}
 
 -- the first name of a list of names, each with its length before it, and the rest
 abbrev pub head_name : Bytes → Option (Bytes × Bytes)
-head_name b = cond (nat_lt (length b) 1) None (part_in (slice_index b 0) (drop 1 b))
+head_name b = lengthed_in 1 b
 
 abbrev pub before : Option (Bytes × Bytes) → (Bytes → List Bytes) → List Bytes
 before None rest = []

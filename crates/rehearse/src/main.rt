@@ -3,8 +3,8 @@
 
 mod play;
 
-use anyhow::anyhow;
-use console::{Console, Handler, LONGEST_LINE, handle_lines, number_arguments, report};
+use anyhow::ensure;
+use console::{Console, Handler, LONGEST_LINE, handle_lines, number_arguments};
 use lines::shape::Scratch;
 use play::Play;
 use script::read::read_step;
@@ -18,29 +18,25 @@ struct Program {
 
 impl Handler for Program {
     // An empty line, and one that begins with `#`, says nothing and is passed over.
-    fn line(&mut self, number: u64, line: &[u8], console: &mut Console) -> io::Result<()> {
-        if line.is_empty() || line[0] == b'#' {
+    fn line(&mut self, line: &[u8], console: &mut Console) -> io::Result<()> {
+        if let [] | [b'#', ..] = line {
             return Ok(());
         }
         match read_step(line) {
-            Some(step) => self.play.step(number, step, &mut self.scratch, console),
-            None => report(number, "it is no step of a script", console),
+            Some(step) => self.play.step(step, &mut self.scratch, console),
+            None => console.report("it is no step of a script"),
         }
     }
 }
 
 fn run(rt: &HostRuntime) -> anyhow::Result<()> {
-    if number_arguments(rt)?.len() != 0 {
-        return Err(anyhow!("usage: rehearse < SCRIPT"));
-    }
-    let scratch = Scratch::new(rt.alloc(), LONGEST_LINE)?;
+    ensure!(number_arguments(rt)?.is_empty(), "usage: rehearse < SCRIPT");
     let mut program = Program {
-        scratch,
+        scratch: Scratch::new(rt.alloc(), LONGEST_LINE)?,
         play: Play::new(),
     };
     handle_lines(rt, &mut program)?;
-    let mut console = Console::reserve(rt)?;
-    program.play.end(&mut console)?;
+    program.play.end(&mut Console::reserve(rt)?)?;
     Ok(())
 }
 

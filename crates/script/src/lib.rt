@@ -1,4 +1,4 @@
-// The steps of a script that `rehearse` plays, out of lines and back.
+// The steps of a script that `rehearse` plays, out of lines.
 #![tactic(auto)]
 
 pub mod read;

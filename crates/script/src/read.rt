@@ -1,134 +1,100 @@
 // Steps out of lines.
-ghost use Rattle.std.specs.Prelude.{◌≡◌, ◌<◌, ◌≤◌, true, IfSome};
+ghost use Rattle.std.specs.Prelude.{◌≡◌, ◌<◌, ◌≤◌, IfSome};
 ghost use Rattle.std.specs.Option.{option_map};
-ghost use Rattle.promise.specs.Bytes.{ended};
-ghost use Rattle.script.specs.Reading.{number_and_rest};
-ghost use Rattle.script.specs.Steps.{dark as dark_step, light as light_step, step_of, num_in, count_in, script_in, desks_in, memory_in, drift_of, rate_in, time_in, beat_in, fall_in, come_in, nth_in, between_in, which_in, deliver_in, pass_in, call_in, scene_in, happens_in, message_in, step_in};
+ghost use Rattle.promise.specs.Bytes.{bind, ended};
+ghost use Rattle.text.specs.Decimals.{number_word, number_and_rest};
+ghost use Rattle.script.specs.Steps.{step_of, count_in, memory_in, drift_of, rate_in, nth_in, which_in, deliver_in, pass_in, call_in, script_in, numbers_in, begins_in, darkness_in, happens_in, message_in, step_in};
 
 use crate::step::{Drift, Fate, Step, Which};
-use text::decimal::read_decimal;
-use text::word::{first_word, next_word, same_bytes};
-
-// A number of at most so much behind a space, and the rest.
-fn number<'a>(rest: &'a [u8], most: u64) -> Option<(u64, &'a [u8])>
-    ensures value { option_map number_and_rest result ≡ num_in most rest.now }
-    ensures bound { IfSome result (λ x. x.0 ≤ most) }
-{
-    let (word, rest) = next_word(rest)?;
-    let n = read_decimal(word, most)?;
-    Some((n, rest))
-}
+use text::decimal::{next_number, read_decimal};
+use text::word::{first_word, next_word};
 
 // A number that is not 0.
 fn count<'a>(rest: &'a [u8], most: u64) -> Option<(u64, &'a [u8])>
     ensures value { option_map number_and_rest result ≡ count_in most rest.now }
     ensures bound { IfSome result (λ x. x.0 ≤ most) }
 {
-    let (n, rest) = number(rest, most)?;
-    if n == 0 {
-        return None;
-    }
-    Some((n, rest))
+    let (n, rest) = next_number(rest, most)?;
+    (n != 0).then_some((n, rest))
 }
 
+// The house's number or a desk's.
+fn party<'a>(rest: &'a [u8]) -> Option<(u8, &'a [u8])>
+    ensures { option_map number_and_rest result ≡ number_word 8 rest.now }
+{
+    let (n, rest) = next_number(rest, 8)?;
+    Some((n as u8, rest))
+}
+
+// A value, if nothing follows it.
+fn ended<T: Drop>(value: T, rest: &[u8]) -> Option<T>
+    ensures { result ≡ ended value rest.now }
+{
+    rest.is_empty().then_some(value)
+}
+
+// A number with nothing behind it.
+fn last_number(rest: &[u8], most: u64) -> Option<u64>
+    ensures value { result ≡ bind (number_word most rest.now) (λ n. ended n.0 n.1) }
+    ensures bound { IfSome result (λ n. n ≤ most) }
+{
+    let (n, rest) = next_number(rest, most)?;
+    ended(n, rest)
+}
+
+// The house's number or a desk's, with nothing behind it.
+fn last_party(rest: &[u8]) -> Option<u8>
+    ensures { result ≡ bind (number_word 8 rest.now) (λ n. ended n.0 n.1) }
+{
+    let (who, rest) = party(rest)?;
+    ended(who, rest)
+}
+
+// The number of a desk, or of desks, with nothing behind it.
+fn last_desk(rest: &[u8]) -> Option<u8>
+    ensures { result ≡ bind (count_in 8 rest.now) (λ n. ended n.0 n.1) }
+{
+    let (n, rest) = count(rest, 8)?;
+    ended(n as u8, rest)
+}
+
+#[tactic(auto, unfolding(crate::specs::Steps::script_in))]
 fn script<'a>(rest: &'a [u8]) -> Option<Step<'a>>
     ensures { option_map step_of result ≡ script_in rest.now }
 {
     let (name, rest) = next_word(rest)?;
-    if !rest.is_empty() {
-        return None;
-    }
-    Some(Step::Script { name })
+    ended(Step::Script { name }, rest)
 }
 
-fn desks<'a>(rest: &'a [u8]) -> Option<Step<'a>>
-    ensures { option_map step_of result ≡ desks_in rest.now }
-{
-    let (n, rest) = count(rest, 8)?;
-    if !rest.is_empty() {
-        return None;
-    }
-    Some(Step::Desks { count: n as u8 })
-}
-
+#[tactic(auto, unfolding(crate::specs::Steps::memory_in))]
 fn memory<'a>(rest: &'a [u8]) -> Option<Step<'a>>
     ensures { option_map step_of result ≡ memory_in rest.now }
 {
-    let (house, rest) = number(rest, u64::MAX)?;
-    let (desk, rest) = number(rest, u64::MAX)?;
-    if !rest.is_empty() {
-        return None;
-    }
-    Some(Step::Memory { house, desk })
+    let (house, rest) = next_number(rest, u64::MAX)?;
+    let (desk, rest) = next_number(rest, u64::MAX)?;
+    ended(Step::Memory { house, desk }, rest)
 }
 
 fn drift(word: &[u8]) -> Option<Drift>
     ensures { result ≡ drift_of word.now }
 {
-    if word.is_empty() || word[0] != b'-' {
-        return Some(Drift::Fast(read_decimal(word, 100)? as u8));
+    match word {
+        [b'-', digits @ ..] => match read_decimal(digits, 100)? {
+            0 => None,
+            n => Some(Drift::Slow(n as u8)),
+        },
+        _ => Some(Drift::Fast(read_decimal(word, 100)? as u8)),
     }
-    let (_, digits) = word.split_at(1);
-    let n = read_decimal(digits, 100)?;
-    if n == 0 {
-        return None;
-    }
-    Some(Drift::Slow(n as u8))
 }
 
+#[tactic(auto, unfolding(crate::specs::Steps::rate_in))]
 fn rate<'a>(rest: &'a [u8]) -> Option<Step<'a>>
     ensures { option_map step_of result ≡ rate_in rest.now }
 {
-    let (who, rest) = number(rest, 8)?;
+    let (who, rest) = party(rest)?;
     let (word, rest) = next_word(rest)?;
     let drift = drift(word)?;
-    if !rest.is_empty() {
-        return None;
-    }
-    Some(Step::Rate {
-        who: who as u8,
-        drift,
-    })
-}
-
-fn time<'a>(rest: &'a [u8]) -> Option<Step<'a>>
-    ensures { option_map step_of result ≡ time_in rest.now }
-{
-    let (ms, rest) = number(rest, u64::MAX)?;
-    if !rest.is_empty() {
-        return None;
-    }
-    Some(Step::Time { ms })
-}
-
-fn beat<'a>(rest: &'a [u8]) -> Option<Step<'a>>
-    ensures { option_map step_of result ≡ beat_in rest.now }
-{
-    let (who, rest) = number(rest, 8)?;
-    if !rest.is_empty() {
-        return None;
-    }
-    Some(Step::Beat { who: who as u8 })
-}
-
-fn fall<'a>(rest: &'a [u8]) -> Option<Step<'a>>
-    ensures { option_map step_of result ≡ fall_in rest.now }
-{
-    let (desk, rest) = count(rest, 8)?;
-    if !rest.is_empty() {
-        return None;
-    }
-    Some(Step::Fall { desk: desk as u8 })
-}
-
-fn come<'a>(rest: &'a [u8]) -> Option<Step<'a>>
-    ensures { option_map step_of result ≡ come_in rest.now }
-{
-    let (desk, rest) = count(rest, 8)?;
-    if !rest.is_empty() {
-        return None;
-    }
-    Some(Step::Come { desk: desk as u8 })
+    ended(Step::Rate { who, drift }, rest)
 }
 
 fn nth(sender: u8, receiver: u8, rest: &[u8]) -> Option<Which>
@@ -137,15 +103,16 @@ fn nth(sender: u8, receiver: u8, rest: &[u8]) -> Option<Which>
     if rest.is_empty() {
         return Some(Which::OldestBetween { sender, receiver });
     }
-    let (nth, rest) = count(rest, 4_294_967_295)?;
-    if !rest.is_empty() {
-        return None;
-    }
-    Some(Which::NthBetween {
-        sender,
-        receiver,
-        nth: nth as u32,
-    })
+    let (nth, rest) = count(rest, u64::from(u32::MAX))?;
+    let nth = nth as u32;
+    ended(
+        Which::NthBetween {
+            sender,
+            receiver,
+            nth,
+        },
+        rest,
+    )
 }
 
 fn which(rest: &[u8]) -> Option<Which>
@@ -154,113 +121,100 @@ fn which(rest: &[u8]) -> Option<Which>
     if rest.is_empty() {
         return Some(Which::Oldest);
     }
-    let (sender, rest) = number(rest, 8)?;
-    let (receiver, rest) = number(rest, 8)?;
-    nth(sender as u8, receiver as u8, rest)
+    let (sender, rest) = party(rest)?;
+    let (receiver, rest) = party(rest)?;
+    nth(sender, receiver, rest)
 }
 
+#[tactic(auto, unfolding(crate::specs::Steps::deliver_in))]
 fn deliver<'a>(fate: Fate, rest: &'a [u8]) -> Option<Step<'a>>
     ensures { option_map step_of result ≡ deliver_in fate rest.now }
 {
-    Some(Step::Deliver {
-        fate,
-        which: which(rest)?,
-    })
+    let which = which(rest)?;
+    Some(Step::Deliver { fate, which })
 }
 
+#[tactic(auto, unfolding(crate::specs::Steps::pass_in))]
 fn pass<'a>(rest: &'a [u8]) -> Option<Step<'a>>
     ensures { option_map step_of result ≡ pass_in rest.now }
 {
-    if same_bytes(rest, b" all") {
-        return Some(Step::PassAll);
+    match rest {
+        b" all" => Some(Step::PassAll),
+        _ => deliver(Fate::Pass, rest),
     }
-    deliver(Fate::Pass, rest)
 }
 
+#[tactic(auto, unfolding(crate::specs::Steps::call_in))]
 fn call<'a>(word: &[u8], rest: &'a [u8]) -> Option<Step<'a>>
     ensures { option_map step_of result ≡ call_in word.now rest.now }
 {
-    let desk = read_decimal(word, 8)?;
-    if desk == 0 || rest.is_empty() || rest[0] != b' ' {
-        return None;
-    }
-    let (_, line) = rest.split_at(1);
-    Some(Step::Call {
-        desk: desk as u8,
-        line,
-    })
-}
-
-fn dark<'a>(rest: &'a [u8]) -> Option<Step<'a>>
-    ensures { option_map step_of result ≡ ended dark_step rest.now }
-{
-    if rest.is_empty() {
-        Some(Step::Dark)
-    } else {
-        None
+    let desk = read_decimal(word, 8)? as u8;
+    match rest {
+        [b' ', line @ ..] if desk != 0 => Some(Step::Call { desk, line }),
+        _ => None,
     }
 }
 
-fn light<'a>(rest: &'a [u8]) -> Option<Step<'a>>
-    ensures { option_map step_of result ≡ ended light_step rest.now }
+// How many desks there are, what clocks show, and calls.
+#[tactic(auto, unfolding(crate::specs::Steps::numbers_in))]
+fn numbers<'a>(word: &[u8], rest: &'a [u8]) -> Option<Step<'a>>
+    ensures { option_map step_of result ≡ numbers_in word.now rest.now }
 {
-    if rest.is_empty() {
-        Some(Step::Light)
-    } else {
-        None
+    match word {
+        b"desks" => last_desk(rest).map(|count| Step::Desks { count }),
+        b"rate" => rate(rest),
+        b"time" => last_number(rest, u64::MAX).map(|ms| Step::Time { ms }),
+        _ => call(word, rest),
     }
 }
 
-// What sets the scene, and calls.
-fn scene<'a>(word: &[u8], rest: &'a [u8]) -> Option<Step<'a>>
-    ensures { option_map step_of result ≡ scene_in word.now rest.now }
+// What a script begins with.
+#[tactic(auto, using(crate::proofs::Spelled::six_letters, crate::proofs::Spelled::first_differs), unfolding(crate::specs::Steps::begins_in))]
+fn begins<'a>(word: &[u8], rest: &'a [u8]) -> Option<Step<'a>>
+    ensures { option_map step_of result ≡ begins_in word.now rest.now }
 {
-    if same_bytes(word, b"script") {
-        script(rest)
-    } else if same_bytes(word, b"desks") {
-        desks(rest)
-    } else if same_bytes(word, b"memory") {
-        memory(rest)
-    } else if same_bytes(word, b"rate") {
-        rate(rest)
-    } else if same_bytes(word, b"time") {
-        time(rest)
-    } else {
-        call(word, rest)
+    match word {
+        b"script" => script(rest),
+        b"memory" => memory(rest),
+        _ => numbers(word, rest),
+    }
+}
+
+// What happens to the messages in flight.
+#[tactic(auto, unfolding(crate::specs::Steps::darkness_in))]
+fn darkness<'a>(word: &[u8], rest: &'a [u8]) -> Option<Step<'a>>
+    ensures { option_map step_of result ≡ darkness_in word.now rest.now }
+{
+    match word {
+        b"dark" => ended(Step::Dark, rest),
+        b"light" => ended(Step::Light, rest),
+        _ => begins(word, rest),
     }
 }
 
 // What happens to house and desks.
+#[tactic(auto, unfolding(crate::specs::Steps::happens_in))]
 fn happens<'a>(word: &[u8], rest: &'a [u8]) -> Option<Step<'a>>
     ensures { option_map step_of result ≡ happens_in word.now rest.now }
 {
-    if same_bytes(word, b"beat") {
-        beat(rest)
-    } else if same_bytes(word, b"fall") {
-        fall(rest)
-    } else if same_bytes(word, b"come") {
-        come(rest)
-    } else if same_bytes(word, b"dark") {
-        dark(rest)
-    } else if same_bytes(word, b"light") {
-        light(rest)
-    } else {
-        scene(word, rest)
+    match word {
+        b"beat" => last_party(rest).map(|who| Step::Beat { who }),
+        b"fall" => last_desk(rest).map(|desk| Step::Fall { desk }),
+        b"come" => last_desk(rest).map(|desk| Step::Come { desk }),
+        _ => darkness(word, rest),
     }
 }
 
-// The step that a line says.
+// The step that a line says. Each function here knows a few words and leaves the others to the next: the arms of one `match` of all words are
+// unproved.
 pub fn read_step<'a>(line: &'a [u8]) -> Option<Step<'a>>
     ensures { option_map step_of result ≡ step_in line.now }
 {
     let (word, rest) = first_word(line)?;
-    if same_bytes(word, b"pass") {
-        pass(rest)
-    } else if same_bytes(word, b"lose") {
-        deliver(Fate::Lose, rest)
-    } else if same_bytes(word, b"twice") {
-        deliver(Fate::Twice, rest)
-    } else {
-        happens(word, rest)
+    match word {
+        b"pass" => pass(rest),
+        b"lose" => deliver(Fate::Lose, rest),
+        b"twice" => deliver(Fate::Twice, rest),
+        _ => happens(word, rest),
     }
 }

@@ -26,6 +26,7 @@ pair_line a b c e = go (hex_value a) (hex_value b) refl refl e
         (ap hex_digit u ∙ (digit_line a x q).0, ap hex_digit v ∙ (digit_line b y r).0)
 
 pub pairs_line : (w bs : Bytes) → pairs_in w ≡ Some bs → hex_pairs bs ≡ w
+unfolding pairs_in
 pairs_line [] bs e = let q : bs ≡ [] = cc in ap hex_pairs q
 pairs_line (a ∷ []) bs e = let z : ◌≡◌ {A = ℕ} 0 1 = cc in absurd (omega arith)
 pairs_line (a ∷ b ∷ w) bs e = go (λ cs f. pairs_line w cs f) (pair_value a b) (pairs_in w) refl refl e
@@ -48,6 +49,7 @@ text_of (b ∷ bs) x v e = ap (λ (t : Bool). cond t (codes "-") (hex_pairs (b �
 
 -- what was read is written as it stood
 pub hex_line : (w bs : Bytes) → hex_in w ≡ Some bs → hex_text bs ≡ w
+unfolding pairs_in
 hex_line w bs e = go (bytes_eq w (codes "-")) refl e
   where
     some : (v : Bytes) → cond (eqb (length v) 0) None (pairs_in v) ≡ Some bs → hex_text bs ≡ v
@@ -79,6 +81,7 @@ pair_again b h =
     ∙ (ap (λ (o : Option ℕ). bind o (λ y. Some (b / 16 * 16 + y))) (digit_again (b % 16) (omega arith)) ∙ ap Some (let q : b / 16 * 16 + b % 16 ≡ b = omega arith in q))
 
 pub pairs_again : (bs : Bytes) → all_bytes bs ≡ true → pairs_in (hex_pairs bs) ≡ Some bs
+unfolding pairs_in
 pairs_again [] h = refl
 pairs_again (b ∷ bs) h =
     ap (λ (o : Option ℕ). bind o (λ c. bind (pairs_in (hex_pairs bs)) (λ cs. Some (c ∷ cs)))) (pair_again b (bytes_head b bs h).0)
@@ -86,6 +89,7 @@ pairs_again (b ∷ bs) h =
 
 -- bytes that are written are read again
 pub hex_again : (bs : Bytes) → all_bytes bs ≡ true → hex_in (hex_text bs) ≡ Some bs
+unfolding pairs_in
 hex_again [] h = refl
 hex_again (b ∷ bs) h =
     ap (λ (t : Bool). hex_in (cond t (codes "-") (hex_pairs (b ∷ bs)))) (ne_eqb (length (b ∷ bs)) 0 (λ q. omega arith))

@@ -1,6 +1,6 @@
 pub mod Numerals
-pub mod Writes
-pub mod Loops
+pub mod Lengths
+pub mod PairLoop
 pub mod NameLoop
 pub mod NumeralLaws
 pub mod HexLaws

@@ -8,6 +8,10 @@ pub text_digit : (n : ℕ) → n < 10 → decimal_text n ≡ (48 + n) ∷ []
 unfolding decimal_text
 text_digit n h = decimal_digit n h
 
+-- the same of its last digit
+pub text_last : (n : ℕ) → n < 10 → decimal_text n ≡ (48 + n % 10) ∷ []
+text_last n h = text_digit n h ∙ ap (λ (d : ℕ). (48 + d) ∷ []) (omega arith)
+
 pub text_step : (n : ℕ) → 10 ≤ n → n < 2 ^ 64 → decimal_text n ≡ decimal_text (n / 10) ++ ((48 + n % 10) ∷ [])
 unfolding decimal_text
 text_step n l h = decimal_step n l h

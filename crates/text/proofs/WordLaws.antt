@@ -1,8 +1,19 @@
 -- Words behind single spaces: what was split is joined as it stood, and words that are joined are split again.
-use Rattle.std.proofs.Common.{◌≡◌, ℕ, Bool, true, false, cond, eqb, [], ◌∷◌, ◌++◌, take, drop, Some, None, Option, sym, refl, ap, ◌∙◌, arith, eqb-true}
+use Rattle.std.specs.List.{position, position_or_len}
+use Rattle.std.specs.Option.{unwrap_or}
+use Rattle.std.proofs.lemmas.List.Sums.{prefix_len-le-length}
+use Rattle.std.proofs.lemmas.List.Recursion.{is_position_or_len}
+use Rattle.std.proofs.Common.{◌≡◌, ◌==◌, not, length, ℕ, Bool, true, false, cond, eqb, [], ◌∷◌, ◌++◌, take, drop, Some, None, Option, sym, refl, ap, ◌∙◌, arith, eqb-true}
 use Rattle.std.proofs.lemmas.List.{take-append-drop}
 use Rattle.promise.specs.Bytes.{Bytes}
 use Rattle.text.specs.Words.{word_len, first_in, word_in, spaced}
+
+-- where the first space stands
+space_at : (w : Bytes) → word_len w ≡ position_or_len (λ b. b == 32) w
+space_at w = is_position_or_len word_len (λ b. b == 32) refl (λ b v. ap (λ (n : ℕ). cond (b == 32) 0 n) (omega arith)) w
+
+pub first_space : (w : Bytes) → unwrap_or (position (λ b. b == 32) w) (length w) ≡ word_len w
+first_space w = let le = prefix_len-le-length (λ b. not (b == 32)) w in let at = space_at w in grind arith
 
 -- what was split is joined as it stood
 pub first_line : (b w r : Bytes) → first_in b ≡ Some (w, r) → w ++ r ≡ b

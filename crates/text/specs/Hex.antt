@@ -21,7 +21,7 @@ hex_text bs = cond (length bs == 0) (codes "-") (hex_pairs bs)
 abbrev pub pair_value : (high low : ℕ) → Option ℕ
 pair_value a b = bind (hex_value a) (λ x. bind (hex_value b) (λ y. Some (x * 16 + y)))
 
-abbrev pub pairs_in : Bytes → Option Bytes
+unfoldable pub pairs_in : Bytes → Option Bytes
 pairs_in [] = Some []
 pairs_in (a ∷ []) = None
 pairs_in (a ∷ b ∷ w) = bind (pair_value a b) (λ c. bind (pairs_in w) (λ bs. Some (c ∷ bs)))

@@ -1,13 +1,10 @@
 -- Names of sheets as words: the bytes 0x21 to 0x7e except '%' stand for themselves, every other byte is '%' and two digits; '%' alone is the empty name.
 -- Assumes nothing.
-use Rattle.std.specs.Prelude.{ℕ, ◌+◌, ◌-◌, ◌*◌, ◌/◌, ◌%◌, ◌<◌, Bool, cond, not, ◌&&◌, [], ◌∷◌, ◌++◌, length, Some, None, codes, Option, ◌==◌, nat_le}
+use Rattle.std.specs.Prelude.{ℕ, zero, suc, ◌/◌, ◌%◌, Bool, cond, not, ◌&&◌, [], ◌∷◌, ◌++◌, length, Some, None, codes, Option, ◌==◌, nat_le}
+use Rattle.std.specs.Borrow.{Bor}
 use Rattle.std.specs.Str.{bytes_eq}
 use Rattle.promise.specs.Bytes.{Bytes, bind}
-use Rattle.text.specs.Hex.{hex_digit, hex_value}
-use Rattle.text.specs.declared.name.Pending.{Pending}
-use Rattle.text.specs.declared.name.Pending.TheVariants.{Nothing, Percent, High}
-use Rattle.text.specs.declared.name.Step.{Step}
-use Rattle.text.specs.declared.name.Step.TheVariants.{Byte, Wait, Malformed}
+use Rattle.text.specs.Hex.{hex_digit, pair_value}
 
 abbrev pub is_plain : ℕ → Bool
 is_plain b = nat_le 33 b && nat_le b 126 && not (b == 37)
@@ -25,48 +22,33 @@ escaped (b ∷ bs) = escape b ++ escaped bs
 abbrev pub name_text : Bytes → Bytes
 name_text n = cond (length n == 0) (codes "%") (escaped n)
 
--- READING, character by character
+-- READING, byte by byte
 
--- a byte that stands for itself is not written by its number
-abbrev pub unseen_step : (high low : ℕ) → Step
-unseen_step h l = cond (is_plain (h * 16 + l)) Malformed (Byte (h * 16 + l))
+-- the byte that two digits say; one that stands for itself is not written by its number
+abbrev pub number_in : (high low : ℕ) → Option ℕ
+number_in h l = bind (pair_value h l) (λ b. cond (is_plain b) None (Some b))
 
-abbrev pub or_malformed : Option ℕ → (ℕ → Step) → Step
-or_malformed None f = Malformed
-or_malformed (Some d) f = f d
+-- the byte that two digits say, and what is left behind them
+abbrev pub numbered_in : Bytes → Option (ℕ × Bytes)
+numbered_in [] = None
+numbered_in (h ∷ []) = None
+numbered_in (h ∷ l ∷ w) = bind (number_in h l) (λ b. Some (b, w))
 
-abbrev pub name_step : Pending → ℕ → Step
-name_step Nothing b = cond (is_plain b) (Byte b) (cond (b == 37) (Wait Percent) Malformed)
-name_step Percent b = or_malformed (hex_value b) (λ h. Wait (High h))
-name_step (High h) b = or_malformed (hex_value b) (λ l. unseen_step h l)
-
-abbrev pub name_end : Pending → Option Bytes
-name_end Nothing = Some []
-name_end Percent = None
-name_end (High h) = None
-
-abbrev pub stepped : Step → (Pending → Option Bytes) → (ℕ → Option Bytes) → Option Bytes
-stepped (Byte b) wait byte = byte b
-stepped (Wait p) wait byte = wait p
-stepped Malformed wait byte = None
-
--- a digit is below 16
-abbrev pub Sound : Pending → Type 0
-Sound Nothing = Unit {0}
-Sound Percent = Unit {0}
-Sound (High h) = h < 16
-
-abbrev pub SoundStep : Step → Type 0
-SoundStep (Byte b) = Unit {0}
-SoundStep (Wait p) = Sound p
-SoundStep Malformed = Unit {0}
+-- the first byte of a name, and what is left of its word
+abbrev pub byte_in : Bytes → Option (ℕ × Bytes)
+byte_in [] = None
+byte_in (b ∷ w) = cond (is_plain b) (Some (b, w)) (cond (b == 37) (numbered_in w) None)
 
 -- so many bytes at most
-abbrev pub name_from : Pending → (room : ℕ) → Bytes → Option Bytes
-name_from p room [] = name_end p
-name_from p room (b ∷ w) =
-    stepped (name_step p b) (λ q. name_from q room w) (λ c. cond (room == 0) None (bind (name_from Nothing (room - 1) w) (λ n. Some (c ∷ n))))
+unfoldable pub name_from : (room : ℕ) → Bytes → Option Bytes
+name_from zero w = cond (length w == 0) (Some []) None
+name_from (suc room) w = cond (length w == 0) (Some []) (bind (byte_in w) (λ x. bind (name_from room x.1) (λ n. Some (x.0 ∷ n))))
 
 -- the name that a word says, if it has at most 255 bytes
 abbrev pub name_in : Bytes → Option Bytes
-name_in w = cond (bytes_eq w (codes "%")) (Some []) (cond (length w == 0) None (name_from Nothing 255 w))
+name_in w = cond (bytes_eq w (codes "%")) (Some []) (cond (length w == 0) None (name_from 255 w))
+
+-- VIEWS
+
+abbrev pub byte_and_rest : ℕ × Bor Bytes → ℕ × Bytes
+byte_and_rest x = (x.0, x.1.now)

@@ -1,16 +1,11 @@
 -- What a reader leaves that appends to a buffer.
 -- Assumes nothing.
-use Rattle.std.specs.Prelude.{Bool, true, false, ◌++◌, Some, None, Ok, Err, Option, Result}
+use Rattle.std.specs.Prelude.{◌++◌, Some, Ok, Err, Option, Result}
 use Rattle.promise.specs.Bytes.{Bytes, bind}
 
 -- what was read so far, before what the rest says
 abbrev pub ahead : Bytes → Option Bytes → Option Bytes
 ahead p o = bind o (λ bs. Some (p ++ bs))
-
--- what a buffer holds, if it was read
-abbrev pub kept : Bool → Bytes → Option Bytes
-kept true bs = Some bs
-kept false bs = None
 
 abbrev pub read_as : {E : Type 0} → Result Unit E → Bytes → Result Bytes E
 read_as (Ok u) bs = Ok bs

@@ -1,12 +1,12 @@
 // Bytes in lowercase hexadecimal; `-` stands for no bytes.
-ghost use Rattle.std.specs.Prelude.{◌≡◌, ℕ, ◌+◌, ◌*◌, ◌/◌, ◌<◌, ◌≤◌, leb, ◌++◌, length, IfSome, is_ok, if◌then◌else◌, Err, vec_len, vec_capacity, nat_le};
-ghost use Rattle.std.specs.Option.{ok_or};
+ghost use Rattle.std.specs.Prelude.{◌≡◌, ℕ, ◌+◌, ◌*◌, ◌/◌, ◌<◌, ◌≤◌, length, IfSome, if◌then◌else◌, Err, vec_len, vec_capacity, nat_le};
+ghost use Rattle.std.specs.Option.{option_map, ok_or};
 ghost use Rattle.text.specs.Laws.{WrittenBack, HexAgain};
-ghost use Rattle.text.specs.Readings.{ahead, kept, read_as};
+ghost use Rattle.text.specs.Readings.{ahead, read_as};
+ghost use Rattle.text.specs.Writings.{Appends, Writes};
 ghost use Rattle.text.specs.Hex.{hex_digit, hex_value, hex_pairs, hex_text, pair_value, pairs_in, hex_in};
 
-use crate::room::{NoRoom, Unread};
-use crate::word::same_bytes;
+use crate::room::{NoRoom, Unread, need_room};
 
 pub(crate) fn hex_digit(d: u8) -> u8
     requires { d < 16 }
@@ -26,11 +26,10 @@ pub(crate) fn hex_value(b: u8) -> Option<u8>
     }
 }
 
+#[tactic(auto, using(crate::proofs::Lengths::length_pairs))]
 fn push_pairs(out: &mut Vec<u8>, bytes: &[u8])
     requires { vec_len out.old + 2 * length bytes.now ≤ vec_capacity out.old }
-    ensures items { out.new.items ≡ out.old.items ++ hex_pairs bytes.now }
-    ensures len { vec_len out.new ≡ vec_len out.old + 2 * length bytes.now }
-    ensures cap { vec_capacity out.new ≡ vec_capacity out.old }
+    ensures { Appends out.old out.new (hex_pairs bytes.now) }
 {
     for b in bytes {
         out.push_reserved(hex_digit(*b / 16));
@@ -39,18 +38,13 @@ fn push_pairs(out: &mut Vec<u8>, bytes: &[u8])
 }
 
 // Appends bytes, where there is room for two characters each and one more.
+#[tactic(auto, using(crate::proofs::HexLaws::hex_again, crate::proofs::Lengths::length_pairs))]
 pub fn write_hex(out: &mut Vec<u8>, bytes: &[u8]) -> Result<(), NoRoom>
-    ensures ok { is_ok result ≡ nat_le (vec_len out.old + (2 * length bytes.now + 1)) (vec_capacity out.old) }
-    ensures items { out.new.items ≡ (if is_ok result then out.old.items ++ hex_text bytes.now else out.old.items) }
-    ensures len { vec_len out.new ≤ vec_len out.old + (2 * length bytes.now + 1) }
-    ensures cap { vec_capacity out.new ≡ vec_capacity out.old }
+    ensures written { Writes out.old out.new result (2 * length bytes.now + 1) (hex_text bytes.now) }
     ensures law { HexAgain bytes.now }
 {
-    let room = out.capacity().saturating_sub(out.len());
-    if room == 0 || (room - 1) / 2 < bytes.len() {
-        return Err(NoRoom);
-    }
-    if bytes.len() == 0 {
+    need_room(out, 2 * bytes.len() + 1)?;
+    if bytes.is_empty() {
         out.push_reserved(b'-');
     } else {
         push_pairs(out, bytes);
@@ -58,52 +52,40 @@ pub fn write_hex(out: &mut Vec<u8>, bytes: &[u8]) -> Result<(), NoRoom>
     Ok(())
 }
 
-fn pair_value(high: u8, low: u8) -> Option<u8>
+pub(crate) fn pair_value(high: u8, low: u8) -> Option<u8>
     ensures { result ≡ pair_value high low }
 {
-    let high = hex_value(high)?;
-    let low = hex_value(low)?;
-    Some(high * 16 + low)
+    Some(hex_value(high)? * 16 + hex_value(low)?)
 }
 
-fn read_pairs(out: &mut Vec<u8>, w: &[u8]) -> bool
+#[tactic(auto, using(crate::proofs::PairLoop::pairs_more), unfolding(crate::specs::Hex::pairs_in))]
+fn read_pairs(out: &mut Vec<u8>, w: &[u8]) -> Option<()>
     requires { 2 * vec_len out.old + length w.now ≤ 2 * vec_capacity out.old }
-    ensures value { kept result out.new.items ≡ ahead out.old.items (pairs_in w.now) }
+    ensures value { option_map (λ _. out.new.items) result ≡ ahead out.old.items (pairs_in w.now) }
     ensures cap { vec_capacity out.new ≡ vec_capacity out.old }
 {
-    let mut i = 0;
-    while w.len() - i >= 2 {
-        let Some(byte) = pair_value(w[i], w[i + 1]) else {
-            return false;
-        };
-        out.push_reserved(byte);
-        i += 2;
+    let mut rest = w;
+    while let [high, low, tail @ ..] = rest {
+        out.push_reserved(pair_value(*high, *low)?);
+        rest = tail;
     }
-    i == w.len()
-}
-
-fn fill_bytes(out: &mut Vec<u8>, w: &[u8]) -> Result<(), Unread>
-    ensures value { read_as result out.new.items ≡ (if leb (length w.now) (2 * vec_capacity out.old) then ok_or (hex_in w.now) Unread.Malformed else Err Unread.NoRoom) }
-    ensures cap { vec_capacity out.new ≡ vec_capacity out.old }
-{
-    out.clear();
-    if w.len() / 2 + w.len() % 2 > out.capacity() {
-        return Err(Unread::NoRoom);
-    }
-    if same_bytes(w, b"-") {
-        return Ok(());
-    }
-    if w.len() == 0 || !read_pairs(out, w) {
-        return Err(Unread::Malformed);
-    }
-    Ok(())
+    rest.is_empty().then_some(())
 }
 
 // Reads a word into a buffer, in the place of what it held.
+#[tactic(auto, using(crate::proofs::HexLaws::hex_line))]
 pub fn read_hex(out: &mut Vec<u8>, w: &[u8]) -> Result<(), Unread>
-    ensures value { read_as result out.new.items ≡ (if leb (length w.now) (2 * vec_capacity out.old) then ok_or (hex_in w.now) Unread.Malformed else Err Unread.NoRoom) }
+    ensures value { read_as result out.new.items ≡ (if nat_le (length w.now) (2 * vec_capacity out.old) then ok_or (hex_in w.now) Unread.Malformed else Err Unread.NoRoom) }
     ensures cap { vec_capacity out.new ≡ vec_capacity out.old }
     ensures law { WrittenBack hex_in hex_text w.now }
 {
-    fill_bytes(out, w)
+    out.clear();
+    if w.len() > 2 * out.capacity() {
+        return Err(Unread::NoRoom);
+    }
+    match w {
+        b"-" => Ok(()),
+        [] => Err(Unread::Malformed),
+        _ => read_pairs(out, w).ok_or(Unread::Malformed),
+    }
 }

@@ -1,44 +1,26 @@
 // Names of sheets as words: a byte that can be seen stands for itself, every other is written by its number.
-ghost use Rattle.std.specs.Prelude.{◌≡◌, ℕ, ◌+◌, ◌*◌, ◌<◌, ◌≤◌, leb, ◌++◌, length, is_ok, if◌then◌else◌, Err, vec_len, vec_capacity, nat_le};
-ghost use Rattle.std.specs.Option.{ok_or};
+ghost use Rattle.std.specs.Prelude.{◌≡◌, ℕ, ◌+◌, ◌*◌, ◌≤◌, length, IfSome, if◌then◌else◌, Err, vec_len, vec_capacity, nat_le};
+ghost use Rattle.std.specs.Option.{option_map, ok_or};
 ghost use Rattle.text.specs.Laws.{WrittenBack, NameAgain};
-ghost use Rattle.text.specs.Names.{is_plain, numbered, escape, escaped, name_text, unseen_step, name_step, name_from, name_in, Sound, SoundStep};
-ghost use Rattle.text.specs.Readings.{ahead, kept, read_as};
+ghost use Rattle.text.specs.Names.{is_plain, numbered, escape, escaped, name_text, number_in, byte_in, byte_and_rest, name_from, name_in};
+ghost use Rattle.text.specs.Readings.{ahead, read_as};
+ghost use Rattle.text.specs.Writings.{Appends, Writes};
 
-use crate::hex::{hex_digit, hex_value};
-use crate::room::{NoRoom, Unread};
-use crate::word::same_bytes;
+use crate::hex::{hex_digit, pair_value};
+use crate::room::{NoRoom, Unread, need_room};
 
 // The longest name, in bytes.
 pub const LONGEST: usize = 255;
 
-// What of an escape was read.
-#[derive(Clone, Copy)]
-pub(crate) enum Pending {
-    Nothing,
-    Percent,
-    High(u8),
-}
-
-// What one more character of a name does.
-#[derive(Clone, Copy)]
-pub(crate) enum Step {
-    Byte(u8),
-    Wait(Pending),
-    Malformed,
-}
-
 fn is_plain(b: u8) -> bool
     ensures { result ≡ is_plain b }
 {
-    b >= 0x21 && b <= 0x7e && b != b'%'
+    matches!(b, 0x21..=0x7e) && b != b'%'
 }
 
 fn push_number(out: &mut Vec<u8>, b: u8)
     requires { vec_len out.old + 3 ≤ vec_capacity out.old }
-    ensures items { out.new.items ≡ out.old.items ++ numbered b }
-    ensures len { vec_len out.new ≡ vec_len out.old + 3 }
-    ensures cap { vec_capacity out.new ≡ vec_capacity out.old }
+    ensures { Appends out.old out.new (numbered b) }
 {
     out.push_reserved(b'%');
     out.push_reserved(hex_digit(b / 16));
@@ -47,9 +29,7 @@ fn push_number(out: &mut Vec<u8>, b: u8)
 
 fn push_escape(out: &mut Vec<u8>, b: u8)
     requires { vec_len out.old + 3 ≤ vec_capacity out.old }
-    ensures items { out.new.items ≡ out.old.items ++ escape b }
-    ensures len { vec_len out.new ≤ vec_len out.old + 3 }
-    ensures cap { vec_capacity out.new ≡ vec_capacity out.old }
+    ensures { Appends out.old out.new (escape b) }
 {
     if is_plain(b) {
         out.push_reserved(b);
@@ -60,9 +40,7 @@ fn push_escape(out: &mut Vec<u8>, b: u8)
 
 fn push_escaped(out: &mut Vec<u8>, name: &[u8])
     requires { vec_len out.old + 3 * length name.now ≤ vec_capacity out.old }
-    ensures items { out.new.items ≡ out.old.items ++ escaped name.now }
-    ensures len { vec_len out.new ≤ vec_len out.old + 3 * length name.now }
-    ensures cap { vec_capacity out.new ≡ vec_capacity out.old }
+    ensures { Appends out.old out.new (escaped name.now) }
 {
     for b in name {
         push_escape(out, *b);
@@ -70,18 +48,13 @@ fn push_escaped(out: &mut Vec<u8>, name: &[u8])
 }
 
 // Appends a name, where there is room for three characters a byte and one more.
+#[tactic(auto, using(crate::proofs::NameLaws::name_again, crate::proofs::Lengths::length_escaped))]
 pub fn write_name(out: &mut Vec<u8>, name: &[u8]) -> Result<(), NoRoom>
-    ensures ok { is_ok result ≡ nat_le (vec_len out.old + (3 * length name.now + 1)) (vec_capacity out.old) }
-    ensures items { out.new.items ≡ (if is_ok result then out.old.items ++ name_text name.now else out.old.items) }
-    ensures len { vec_len out.new ≤ vec_len out.old + (3 * length name.now + 1) }
-    ensures cap { vec_capacity out.new ≡ vec_capacity out.old }
+    ensures written { Writes out.old out.new result (3 * length name.now + 1) (name_text name.now) }
     ensures law { NameAgain name.now }
 {
-    let room = out.capacity().saturating_sub(out.len());
-    if room == 0 || (room - 1) / 3 < name.len() {
-        return Err(NoRoom);
-    }
-    if name.len() == 0 {
+    need_room(out, name.len().saturating_mul(3).saturating_add(1))?;
+    if name.is_empty() {
         out.push_reserved(b'%');
     } else {
         push_escaped(out, name);
@@ -89,70 +62,48 @@ pub fn write_name(out: &mut Vec<u8>, name: &[u8]) -> Result<(), NoRoom>
     Ok(())
 }
 
-// A byte that stands for itself is not written by its number.
-fn unseen(high: u8, low: u8) -> Step
-    requires { (high < 16) × (low < 16) }
-    ensures { result ≡ unseen_step high low }
+// The byte that two digits say; one that stands for itself is not written by its number.
+fn numbered_byte(high: u8, low: u8) -> Option<u8>
+    ensures { result ≡ number_in high low }
 {
-    let b = high * 16 + low;
-    if is_plain(b) {
-        Step::Malformed
-    } else {
-        Step::Byte(b)
+    let b = pair_value(high, low)?;
+    (!is_plain(b)).then_some(b)
+}
+
+// The first byte of a name, and what is left of its word.
+fn first_byte<'a>(w: &'a [u8]) -> Option<(u8, &'a [u8])>
+    ensures value { option_map byte_and_rest result ≡ byte_in w.now }
+    ensures shorter { IfSome result (λ x. length x.1.now + 1 ≤ length w.now) }
+{
+    match w {
+        [b'%', high, low, rest @ ..] => Some((numbered_byte(*high, *low)?, rest)),
+        [b, rest @ ..] if is_plain(*b) => Some((*b, rest)),
+        _ => None,
     }
 }
 
-fn name_step(pending: Pending, b: u8) -> Step
-    requires { Sound pending }
-    ensures value { result ≡ name_step pending b }
-    ensures sound { SoundStep result }
-{
-    match pending {
-        Pending::Nothing => {
-            if is_plain(b) {
-                Step::Byte(b)
-            } else if b == b'%' {
-                Step::Wait(Pending::Percent)
-            } else {
-                Step::Malformed
-            }
-        }
-        Pending::Percent => match hex_value(b) {
-            Some(high) => Step::Wait(Pending::High(high)),
-            None => Step::Malformed,
-        },
-        Pending::High(high) => match hex_value(b) {
-            Some(low) => unseen(high, low),
-            None => Step::Malformed,
-        },
-    }
-}
-
-fn read_escaped(out: &mut Vec<u8>, w: &[u8]) -> bool
+#[tactic(auto, using(crate::proofs::NameLoop::name_none, crate::proofs::NameLoop::name_full, crate::proofs::NameLoop::name_more, crate::proofs::NameLoop::name_ends))]
+fn read_escaped(out: &mut Vec<u8>, w: &[u8]) -> Option<()>
     requires { (vec_len out.old ≡ 0) × (255 ≤ vec_capacity out.old) }
-    ensures value { kept result out.new.items ≡ ahead out.old.items (name_from Pending.Nothing 255 w.now) }
+    ensures value { option_map (λ _. out.new.items) result ≡ ahead out.old.items (name_from 255 w.now) }
     ensures cap { vec_capacity out.new ≡ vec_capacity out.old }
 {
-    let mut pending = Pending::Nothing;
-    for b in w {
-        match name_step(pending, *b) {
-            Step::Byte(byte) => {
-                if out.len() >= LONGEST {
-                    return false;
-                }
-                out.push_reserved(byte);
-                pending = Pending::Nothing;
-            }
-            Step::Wait(next) => pending = next,
-            Step::Malformed => return false,
+    let mut rest = w;
+    while !rest.is_empty() {
+        let (byte, tail) = first_byte(rest)?;
+        if out.len() >= LONGEST {
+            return None;
         }
+        out.push_reserved(byte);
+        rest = tail;
     }
-    matches!(pending, Pending::Nothing)
+    Some(())
 }
 
 // Reads a word into a buffer that has room for the longest name, in the place of what it held.
+#[tactic(auto, using(crate::proofs::NameLaws::name_line))]
 pub fn read_name(out: &mut Vec<u8>, w: &[u8]) -> Result<(), Unread>
-    ensures value { read_as result out.new.items ≡ (if leb 255 (vec_capacity out.old) then ok_or (name_in w.now) Unread.Malformed else Err Unread.NoRoom) }
+    ensures value { read_as result out.new.items ≡ (if nat_le 255 (vec_capacity out.old) then ok_or (name_in w.now) Unread.Malformed else Err Unread.NoRoom) }
     ensures cap { vec_capacity out.new ≡ vec_capacity out.old }
     ensures law { WrittenBack name_in name_text w.now }
 {
@@ -160,11 +111,9 @@ pub fn read_name(out: &mut Vec<u8>, w: &[u8]) -> Result<(), Unread>
     if out.capacity() < LONGEST {
         return Err(Unread::NoRoom);
     }
-    if same_bytes(w, b"%") {
-        return Ok(());
+    match w {
+        b"%" => Ok(()),
+        [] => Err(Unread::Malformed),
+        _ => read_escaped(out, w).ok_or(Unread::Malformed),
     }
-    if w.len() == 0 || !read_escaped(out, w) {
-        return Err(Unread::Malformed);
-    }
-    Ok(())
 }

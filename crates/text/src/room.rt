@@ -1,12 +1,45 @@
 // What a writer or a reader answers that has no room.
+ghost use Rattle.std.specs.Prelude.{◌≡◌, ◌+◌, ◌≤◌, ◌↔◌, IsOk, vec_len, vec_capacity};
+
+use std::error::Error;
+use std::fmt;
 
 // There is no room to write; nothing was written.
-#[derive(Clone, Copy)]
+#[derive(Clone, Copy, PartialEq, Eq, Debug)]
 pub struct NoRoom;
 
 // Why a word was not read into a buffer.
-#[derive(Clone, Copy)]
+#[derive(Clone, Copy, PartialEq, Eq, Debug)]
 pub enum Unread {
     Malformed,
     NoRoom,
+}
+
+impl fmt::Display for NoRoom {
+    fn fmt<W: fmt::Write>(&self, f: &mut fmt::Formatter<W>) -> fmt::Result {
+        write!(f, "no room to write")
+    }
+}
+
+impl Error for NoRoom {}
+
+impl fmt::Display for Unread {
+    fn fmt<W: fmt::Write>(&self, f: &mut fmt::Formatter<W>) -> fmt::Result {
+        match self {
+            Unread::Malformed => write!(f, "malformed"),
+            Unread::NoRoom => write!(f, "no room to read into"),
+        }
+    }
+}
+
+impl Error for Unread {}
+
+// Whether a buffer has room for so many bytes more.
+pub fn need_room(out: &Vec<u8>, size: usize) -> Result<(), NoRoom>
+    ensures { IsOk result ↔ (vec_len out.now + size ≤ vec_capacity out.now) }
+{
+    if out.capacity() - out.len() < size {
+        return Err(NoRoom);
+    }
+    Ok(())
 }
