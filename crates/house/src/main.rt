@@ -20,10 +20,7 @@ impl House {
     // Messages are passed over, and no beat has anything to do, since no session is built yet.
     fn handle(&mut self, event: Event<'_>, console: &mut Console) -> io::Result<()> {
         match event {
-            Event::Clock(clock) => match self.clock.set(clock) {
-                Ok(()) => Ok(()),
-                Err(error) => console.report(error),
-            },
+            Event::Clock(clock) => self.clock.set(clock).or_else(|error| console.report(error)),
             Event::Sync(word) => {
                 let _ = write_sync(&mut console.text, word);
                 console.say()

@@ -59,10 +59,10 @@ impl Seats {
             return console.report("it is no call");
         };
         match self.of(desk) {
-            Some(seat) if seat.there => match seat.waiting.add() {
-                Ok(()) => Ok(()),
-                Err(refusal) => hand_back(desk, call, refusal, console),
-            },
+            Some(seat) if seat.there => seat
+                .waiting
+                .add()
+                .or_else(|refusal| hand_back(desk, call, refusal, console)),
             _ => console.report("that desk is not there"),
         }
     }
