@@ -25,8 +25,8 @@ pub did_as : (y : Memory) (b : Bytes) (x z : m.DeskTurn) → x ≡ z → Did y b
 did_as y b x z e h = record { knows = h.knows ∙ ap (λ (u : m.DeskTurn). u.desk) e; does = h.does ∙ ap (λ (u : m.DeskTurn). map saying u.does) e }
 
 -- what was decided, by its name
-pub did_say : (y : Memory) (t : ℕ) (b : Bytes) (a : Asking) (v w : Say) → v ≡ w → Did y b (said w t b a) → Did y b (said v t b a)
-did_say y t b a v w e h = did_as y b (said w t b a) (said v t b a) (ap (λ (u : Say). said u t b a) (sym e)) h
+pub did_say : (y : Memory) (t : ℕ) (b : Bytes) (ps : List Bytes) (a : Asking) (v w : Say) → v ≡ w → Did y b (said w t b ps a) → Did y b (said v t b ps a)
+did_say y t b ps a v w e h = did_as y b (said w t b ps a) (said v t b ps a) (ap (λ (u : Say). said u t b ps a) (sym e)) h
 
 -- after a seal
 pub seal_says : (ps all : List Bytes) (j : ℕ) (x : Bytes) → j < length ps → all ≡ set ps j x → get_or all j [] ≡ x

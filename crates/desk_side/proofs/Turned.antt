@@ -1,5 +1,5 @@
 -- A whole turn.
-use Rattle.std.proofs.Common.{◌≡◌, ℕ, Bool, true, false, eqb, map, Some, None, Option, sym, refl, ap, ◌∙◌, eqb-true}
+use Rattle.std.proofs.Common.{◌≡◌, ℕ, Bool, true, false, eqb, List, map, Some, None, Option, sym, refl, ap, ◌∙◌, eqb-true}
 use Rattle.codec.specs.Messages.{Msg, decode_msg}
 use Rattle.promise.specs.Bytes.{Bytes}
 use Rattle.promise.specs.Machine.{Machine, sheets}
@@ -15,8 +15,8 @@ use Rattle.desk_side.specs.Said.{said, heard}
 use Rattle.desk_side.specs.Turns.{comes_of, came_of, decoded, turn_of, AsModel}
 
 -- at what came, by its name
-pub turned : (r : Say) (a : Asking) (z : Settings) (t : ℕ) (d : m.Desk) (ev known : Event) → ev ≡ known → said r t (came_of known) a ≡ turn_of z (comes_of known) t d → said r t (came_of ev) a ≡ turn_of z (comes_of ev) t d
-turned r a z t d ev known e h = ap (λ (x : Event). said r t (came_of x) a) e ∙ h ∙ sym (ap (λ (x : Event). turn_of z (comes_of x) t d) e)
+pub turned : (r : Say) (ps : List Bytes) (a : Asking) (z : Settings) (t : ℕ) (d : m.Desk) (ev known : Event) → ev ≡ known → said r t (came_of known) ps a ≡ turn_of z (comes_of known) t d → said r t (came_of ev) ps a ≡ turn_of z (comes_of ev) t d
+turned r ps a z t d ev known e h = ap (λ (x : Event). said r t (came_of x) ps a) e ∙ h ∙ sym (ap (λ (x : Event). turn_of z (comes_of x) t d) e)
 
 pub from_house : (i t : ℕ) (o : Option Msg) (d : m.Desk) → i ≡ 0 → heard t o d ≡ decoded i t o d
 unfolding m.desk_from_by

@@ -12,8 +12,11 @@ use Rattle.desk_side.specs.Calls.{grabs}
 use Rattle.desk_side.specs.View.{desk_of, requests_in, greeting_in, outputs_in}
 use Rattle.desk_side.specs.Outputs.{outs_of}
 
+abbrev pub desk_of_memory : Memory → m.Desk
+desk_of_memory y = desk_of (requests_in y.requests) y.asking
+
 abbrev pub desk_in : Desk → m.Desk
-desk_in d = desk_of d.memory.asking
+desk_in d = desk_of_memory d.memory
 
 -- what it did at its last turn
 abbrev pub outputs_of : Desk → List Output
@@ -21,14 +24,14 @@ outputs_of d = outputs_in d.memory.outputs
 
 -- what the outputs stand for, where these bytes came
 abbrev pub outs_of_memory : Memory → (came : Bytes) → List (p.Does Bytes)
-outs_of_memory y b = outs_of (requests_in y.asking.requests) (greeting_in y.greeting) b (outputs_in y.outputs)
+outs_of_memory y b = outs_of (requests_in y.requests) (greeting_in y.greeting) b (outputs_in y.outputs)
 
 abbrev pub outs_in : Desk → (came : Bytes) → List (p.Does Bytes)
 outs_in d b = outs_of_memory d.memory b
 
 -- it knows and does what the model's desk then knows and does
 pub record Did (y : Memory) (came : Bytes) (x : m.DeskTurn) : Type 0 where
-  pub knows : desk_of y.asking ≡ x.desk
+  pub knows : desk_of_memory y ≡ x.desk
   pub does : outs_of_memory y came ≡ map saying x.does
 
 abbrev pub settings : (retry : ℕ) → Settings

@@ -1,6 +1,6 @@
 -- What a desk decided to say, and the model's turn that it makes.
 -- Assumes nothing.
-use Rattle.std.specs.Prelude.{ℕ, Bool, [], ◌∷◌, map, take, drop, Some, None, Option, ◌==◌, slice_index_or}
+use Rattle.std.specs.Prelude.{ℕ, Bool, List, [], ◌∷◌, map, take, drop, Some, None, Option, ◌==◌, slice_index_or}
 use Rattle.codec.specs.Messages.{Msg, Hello, Alive, Request}
 use Rattle.promise.specs.Bytes.{Bytes}
 use Rattle.promise.specs.Layout.{busy}
@@ -12,7 +12,7 @@ use Rattle.desk_side.specs.declared.say.Say.{Say}
 use Rattle.desk_side.specs.declared.say.Say.TheVariants as s
 use Rattle.desk_side.specs.declared.state.Asking.{Asking}
 use Rattle.desk_side.specs.Slots.{passes, call_in}
-use Rattle.desk_side.specs.View.{desk_of, requests_in}
+use Rattle.desk_side.specs.View.{desk_of}
 
 -- all that waits and passes is asked for
 abbrev pub asks_all : Which → (clock : ℕ) → m.Desk → m.DeskTurn
@@ -27,18 +27,18 @@ abbrev pub tells : (number : ℕ) → Bytes → m.Desk → m.DeskTurn
 tells k x d = record { does = p.Tell k x ∷ []; desk = d }
 
 -- the turn that comes of what a desk decided to say, where these bytes came
-abbrev pub said : Say → (clock : ℕ) → (came : Bytes) → Asking → m.DeskTurn
-said s.Nothing t b a = m.does_nothing (desk_of a)
-said s.Hello t b a = says t (Hello a.nonce.0) (desk_of a)
-said s.Alive t b a = says t (Alive (desk_of a).session) (desk_of a)
-said (s.Request x) t b a = says t (Request (desk_of a).session x.slot.0 x.seq.0 (call_in (slice_index_or (requests_in a.requests) x.slot.0 []))) (desk_of a)
-said (s.Requests w) t b a = asks_all w t (desk_of a)
-said (s.Tell k x n) t b a = tells k.0 (take n (drop x b)) (desk_of a)
-said (s.Busy k) t b a = tells k.0 busy (desk_of a)
+abbrev pub said : Say → (clock : ℕ) → (came : Bytes) → (requests : List Bytes) → Asking → m.DeskTurn
+said s.Nothing t b ps a = m.does_nothing (desk_of ps a)
+said s.Hello t b ps a = says t (Hello a.nonce.0) (desk_of ps a)
+said s.Alive t b ps a = says t (Alive (desk_of ps a).session) (desk_of ps a)
+said (s.Request x) t b ps a = says t (Request (desk_of ps a).session x.slot.0 x.seq.0 (call_in (slice_index_or ps x.slot.0 []))) (desk_of ps a)
+said (s.Requests w) t b ps a = asks_all w t (desk_of ps a)
+said (s.Tell k x n) t b ps a = tells k.0 (take n (drop x b)) (desk_of ps a)
+said (s.Busy k) t b ps a = tells k.0 busy (desk_of ps a)
 
 -- what a call's first message leaves: a Request for the call in its place, a Hello, or nothing
-abbrev pub says_first : (clock : ℕ) → Place → (alone : Bool) → Asking → m.DeskTurn
-says_first t x v a = m.speaks t (m.first_said (desk_of a) x.slot.0 x.seq.0 (call_in (slice_index_or (requests_in a.requests) x.slot.0 [])) ((desk_of a).session == 0) v) (desk_of a).slots (desk_of a)
+abbrev pub says_first : (clock : ℕ) → Place → (alone : Bool) → (requests : List Bytes) → Asking → m.DeskTurn
+says_first t x v ps a = m.speaks t (m.first_said (desk_of ps a) x.slot.0 x.seq.0 (call_in (slice_index_or ps x.slot.0 [])) ((desk_of ps a).session == 0) v) (desk_of ps a).slots (desk_of ps a)
 
 -- at bytes that came from the house
 abbrev pub heard : (clock : ℕ) → Option Msg → m.Desk → m.DeskTurn

@@ -70,7 +70,7 @@ is_told (o.Busy k) = true
 
 abbrev pub Says : Desk → Output → Option (Bor Bytes) → Type 0
 Says d x None = is_told x ≡ true
-Says d x (Some r) = (b : Bytes) → out_of (requests_in d.memory.asking.requests) (greeting_in d.memory.greeting) b x ≡ p.To 0 r.now
+Says d x (Some r) = (b : Bytes) → out_of (requests_in d.memory.requests) (greeting_in d.memory.greeting) b x ≡ p.To 0 r.now
 
 -- the answer that an output tells, and under which number; none for a message
 abbrev pub Tells : (came : Bytes) → Output → Option (CallNumber × Bor Bytes) → Type 0

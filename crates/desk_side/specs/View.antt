@@ -22,14 +22,15 @@ outputs_in o = vec_items o.list
 abbrev pub greeting_in : Greeting → Bytes
 greeting_in g = vec_items g.bytes
 
-abbrev pub desk_of : Asking → m.Desk
-desk_of a = record {
+-- requests: the strings that the calls stand in
+abbrev pub desk_of : (requests : List Bytes) → Asking → m.Desk
+desk_of ps a = record {
   nonce = a.nonce.0;
   session = session_of a.session;
   answered = a.answered;
   spoke = a.spoke.0;
   may_hold = a.may_hold;
-  slots = slots_of a.slots (requests_in a.requests);
+  slots = slots_of a.slots ps;
 }
 
 abbrev pub free_place : Option Place → m.Free

@@ -42,7 +42,8 @@ impl Desk {
         }
         let parts = Parts::begin(heap, NEEDED, SLOTS, REQUEST_HEAD)?;
         let memory = Memory {
-            asking: Asking::begin(nonce, clock, Requests { parts }),
+            asking: Asking::begin(nonce, clock),
+            requests: Requests { parts },
             greeting: Greeting::new(heap)?,
             outputs: Outputs::new(heap)?,
         };

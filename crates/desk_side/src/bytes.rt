@@ -19,7 +19,7 @@ impl Desk {
     {
         match output {
             Output::Hello | Output::Alive => Some(self.memory.greeting.as_slice()),
-            Output::Request { slot } => Some(self.memory.asking.requests.get(slot)),
+            Output::Request { slot } => Some(self.memory.requests.get(slot)),
             Output::Tell { .. } | Output::Busy { .. } => None,
         }
     }

@@ -1,10 +1,11 @@
 // What a desk does at a call.
-ghost use Rattle.std.specs.Prelude.{◌≡◌, ℕ};
+ghost use Rattle.std.specs.Prelude.{◌≡◌, ℕ, List};
 ghost use Rattle.promise.specs.Bytes.{Bytes};
 ghost use Rattle.asking.specs.Desk.{shortened};
 ghost use Rattle.asking.specs.House.{next64};
 ghost use Rattle.desk_side.specs.Calls.{grabs};
 
+use crate::requests::Requests;
 use crate::say::Say;
 use crate::slot::{Place, Slot, Waiting};
 use crate::state::Asking;
@@ -39,11 +40,11 @@ fn next(last: Seq) -> Seq
 impl Asking {
     ghost use Rattle.asking.specs.Desk as m;
     ghost use Rattle.desk_side.specs.Said.{said, says_first};
-    ghost use Rattle.desk_side.specs.View.{desk_of};
+    ghost use Rattle.desk_side.specs.View.{desk_of, requests_in};
 
     // A Request for the call that was put into its place; without a session a Hello, if no other call waits.
-    fn first_said(&self, place: Place, alone: bool) -> Say
-        ensures { (t : ℕ) (b : Bytes) → said result t b self.now ≡ says_first t place alone self.now }
+    fn first_said(self, place: Place, alone: bool) -> Say
+        ensures { (ps : List Bytes) (t : ℕ) (b : Bytes) → said result t b ps self ≡ says_first t place alone ps self }
     {
         if self.session.is_some() {
             Say::Request { place }
@@ -54,11 +55,18 @@ impl Asking {
         }
     }
 
-    fn take_call(&mut self, place: Place, number: CallNumber, call: &[u8], clock: Clock) -> Say
-        ensures { (b : Bytes) → said result clock.0 b self.new ≡ m.takes_call grabs clock.0 number.0 (m.shortened call.now) place.slot.0 place.seq.0 (desk_of self.old) }
+    fn take_call(
+        mut self,
+        requests: &mut Requests,
+        place: Place,
+        number: CallNumber,
+        call: &[u8],
+        clock: Clock,
+    ) -> (Asking, Say)
+        ensures { (b : Bytes) → said result.1 clock.0 b (requests_in requests.new) result.0 ≡ m.takes_call grabs clock.0 number.0 (m.shortened call.now) place.slot.0 place.seq.0 (desk_of (requests_in requests.old) self) }
     {
         let alone = self.none_waits();
-        self.requests.put(place, call);
+        requests.put(place, call);
         let waiting = Waiting {
             number,
             sent: self.session.is_some(),
@@ -70,19 +78,27 @@ impl Asking {
             waiting: Some(waiting),
         };
         self.may_hold = self.may_hold || may_grab(shorten(call));
-        self.first_said(place, alone)
+        // one value for both, so that its ghost field is proved once
+        let asking = self;
+        (asking, asking.first_said(place, alone))
     }
 
-    pub(crate) fn call(&mut self, number: CallNumber, call: &[u8], clock: Clock) -> Say
-        ensures { (b : Bytes) → said result clock.0 b self.new ≡ m.desk_called grabs clock.0 number.0 call.now (desk_of self.old) }
+    pub(crate) fn call(
+        self,
+        requests: &mut Requests,
+        number: CallNumber,
+        call: &[u8],
+        clock: Clock,
+    ) -> (Asking, Say)
+        ensures { (b : Bytes) → said result.1 clock.0 b (requests_in requests.new) result.0 ≡ m.desk_called grabs clock.0 number.0 call.now (desk_of (requests_in requests.old) self) }
     {
         let Some(last) = self.free() else {
-            return Say::Busy { number };
+            return (self, Say::Busy { number });
         };
         let place = Place {
             slot: last.slot,
             seq: next(last.seq),
         };
-        self.take_call(place, number, call, clock)
+        self.take_call(requests, place, number, call, clock)
     }
 }

@@ -1,5 +1,5 @@
 // What a desk does at a message.
-ghost use Rattle.std.specs.Prelude.{◌≡◌, ℕ};
+ghost use Rattle.std.specs.Prelude.{◌≡◌, ℕ, List};
 ghost use Rattle.promise.specs.Bytes.{Bytes};
 ghost use Rattle.codec.specs.Messages.{decode_msg};
 
@@ -16,43 +16,43 @@ impl Asking {
     ghost use Rattle.std.specs.Prelude.{take, drop};
     ghost use Rattle.asking.specs.Desk.{welcome, response_by};
     ghost use Rattle.asking.specs.House.{is_session};
+    ghost use Rattle.desk_side.specs.Sessions.{session_of};
     ghost use Rattle.desk_side.specs.Said.{said, heard};
     ghost use Rattle.desk_side.specs.View.{desk_of};
 
-    fn hear_welcome(&mut self, nonce: Nonce, session: Session) -> Say
-        ensures { (t : ℕ) (b : Bytes) → said result t b self.new ≡ welcome t nonce.0 session.0 (desk_of self.old) }
+    fn hear_welcome(self, nonce: Nonce, session: Session) -> (Asking, Say)
+        ensures { (ps : List Bytes) (t : ℕ) (b : Bytes) → said result.1 t b ps result.0 ≡ welcome t nonce.0 session.0 (desk_of ps self) }
     {
         if !self.is_mine(nonce, session) {
-            return Say::Nothing;
+            return (self, Say::Nothing);
         }
-        self.adopt(session);
-        Say::Requests {
+        let unsent = Say::Requests {
             which: Which::NotSent,
-        }
+        };
+        (self.adopt(session), unsent)
     }
 
     // The answer is `len` bytes of the message that came, from `start` on.
-    fn hear_response(&mut self, request: RequestId, start: usize, len: usize) -> Say
-        ensures { (t : ℕ) (b : Bytes) → said result t b self.new ≡ response_by request.slot.0 request.seq.0 (take len (drop start b)) (is_session request.session.0 (desk_of self.old).session) (desk_of self.old) }
+    fn hear_response(self, request: RequestId, start: usize, len: usize) -> (Asking, Say)
+        ensures { (ps : List Bytes) (t : ℕ) (b : Bytes) → said result.1 t b ps result.0 ≡ response_by request.slot.0 request.seq.0 (take len (drop start b)) (is_session request.session.0 (session_of self.session)) (desk_of ps self) }
     {
         if !self.is_session(request.session) {
-            return Say::Nothing;
+            return (self, Say::Nothing);
         }
         let Some(place) = Place::at(request.slot, request.seq) else {
-            return Say::Nothing;
+            return (self, Say::Nothing);
         };
         let Some(number) = self.waiting(place) else {
-            return Say::Nothing;
+            return (self, Say::Nothing);
         };
-        self.settle(place);
-        Say::Tell { number, start, len }
+        (self.settle(place), Say::Tell { number, start, len })
     }
 
-    pub(crate) fn hear(&mut self, bytes: &[u8]) -> Say
-        ensures { (t : ℕ) → said result t bytes.now self.new ≡ heard t (decode_msg bytes.now) (desk_of self.old) }
+    pub(crate) fn hear(self, bytes: &[u8]) -> (Asking, Say)
+        ensures { (ps : List Bytes) (t : ℕ) → said result.1 t bytes.now ps result.0 ≡ heard t (decode_msg bytes.now) (desk_of ps self) }
     {
         let Some(message) = read_message(bytes) else {
-            return Say::Nothing;
+            return (self, Say::Nothing);
         };
         match message {
             Message::Welcome { nonce, session } => self.hear_welcome(nonce, session),
@@ -60,7 +60,9 @@ impl Asking {
                 let start = RESPONSE_HEAD.min(bytes.len());
                 self.hear_response(request, start, bytes.len() - start)
             }
-            Message::Hello { .. } | Message::Request { .. } | Message::Alive { .. } => Say::Nothing,
+            Message::Hello { .. } | Message::Request { .. } | Message::Alive { .. } => {
+                (self, Say::Nothing)
+            }
         }
     }
 }

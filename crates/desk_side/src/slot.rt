@@ -48,6 +48,7 @@ impl Place {
     pub(crate) fn at(slot: SlotId, seq: Seq) -> Option<Place>
         ensures { MatchOption result (8 ≤ slot.0) (λ place. (place.slot ≡ slot) × (place.seq ≡ seq)) }
     {
+        // a branch and no `then`: the ghost field is proved where the test holds
         if slot.0 < 8 {
             Some(Place { slot, seq })
         } else {

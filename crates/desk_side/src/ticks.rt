@@ -1,5 +1,5 @@
 // What a desk does at a beat of its clock.
-ghost use Rattle.std.specs.Prelude.{◌≡◌, ℕ};
+ghost use Rattle.std.specs.Prelude.{◌≡◌, List};
 ghost use Rattle.promise.specs.Bytes.{Bytes};
 
 use crate::say::Say;
@@ -13,8 +13,8 @@ impl Asking {
     ghost use Rattle.desk_side.specs.View.{desk_of};
 
     // Says that it is there, if it may have something in hand and has said nothing for long.
-    fn keep_alive(&self, clock: Clock) -> Say
-        ensures { (b : Bytes) → said result clock.0 b self.now ≡ m.alive clock.0 (desk_of self.now) }
+    fn keep_alive(self, clock: Clock) -> Say
+        ensures { (ps : List Bytes) (b : Bytes) → said result clock.0 b ps self ≡ m.alive clock.0 (desk_of ps self) }
     {
         if self.is_silent(clock) {
             Say::Alive
@@ -24,17 +24,16 @@ impl Asking {
     }
 
     // Calls that are due are asked for anew. As long as the house has not answered, one Hello says that all of them wait.
-    pub(crate) fn tick(&mut self, retry: u64, clock: Clock) -> Say
-        ensures { (b : Bytes) → said result clock.0 b self.new ≡ m.desk_tick retry clock.0 (desk_of self.old) }
+    pub(crate) fn tick(self, retry: u64, clock: Clock) -> (Asking, Say)
+        ensures { (ps : List Bytes) (b : Bytes) → said result.1 clock.0 b ps result.0 ≡ m.desk_tick retry clock.0 (desk_of ps self) }
     {
         let due = Which::Due { retry, clock };
         if !self.any_asked(due) {
-            return self.keep_alive(clock);
+            return (self, self.keep_alive(clock));
         }
         if self.answered {
-            return Say::Requests { which: due };
+            return (self, Say::Requests { which: due });
         }
-        self.start_over(clock);
-        Say::Hello
+        (self.start_over(clock), Say::Hello)
     }
 }

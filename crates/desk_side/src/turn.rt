@@ -4,6 +4,7 @@ ghost use Rattle.std.specs.Prelude.{◌≡◌};
 use crate::desk::Desk;
 use crate::memory::Memory;
 use crate::output::Event;
+use crate::requests::Requests;
 use crate::say::Say;
 use crate::state::Asking;
 use ids::{Clock, DeskId};
@@ -15,35 +16,41 @@ impl Asking {
     ghost use Rattle.desk_side.specs.Desks.{settings};
     ghost use Rattle.desk_side.specs.Said.{said};
     ghost use Rattle.desk_side.specs.Turns.{comes_of, came_of, turn_of};
-    ghost use Rattle.desk_side.specs.View.{desk_of};
+    ghost use Rattle.desk_side.specs.View.{desk_of, requests_in};
 
-    // What it decides to say at what comes, and knows then.
-    fn come(&mut self, event: Event<'_>, retry: u64, clock: Clock) -> Say
-        ensures { said result clock.0 (came_of event.entry) self.new ≡ turn_of (settings retry) (comes_of event.entry) clock.0 (desk_of self.old) }
+    // What it decides to say at what comes, and knows then. A call that is taken goes into `requests`.
+    fn come(
+        self,
+        requests: &mut Requests,
+        event: Event<'_>,
+        retry: u64,
+        clock: Clock,
+    ) -> (Asking, Say)
+        ensures { said result.1 clock.0 (came_of event.entry) (requests_in requests.new) result.0 ≡ turn_of (settings retry) (comes_of event.entry) clock.0 (desk_of (requests_in requests.old) self) }
     {
         match event {
             Event::Message { from, bytes } => {
                 if from == HOUSE {
                     self.hear(bytes)
                 } else {
-                    Say::Nothing
+                    (self, Say::Nothing)
                 }
             }
-            Event::Call { number, call } => self.call(number, call, clock),
+            Event::Call { number, call } => self.call(requests, number, call, clock),
             Event::Tick => self.tick(retry, clock),
         }
     }
 }
 
 impl Memory {
-    ghost use Rattle.desk_side.specs.Desks.{Did, settings};
+    ghost use Rattle.desk_side.specs.Desks.{Did, desk_of_memory, settings};
     ghost use Rattle.desk_side.specs.Turns.{comes_of, came_of, turn_of};
-    ghost use Rattle.desk_side.specs.View.{desk_of};
 
     fn turn(&mut self, event: Event<'_>, retry: u64, clock: Clock)
-        ensures { Did self.new (came_of event.entry) (turn_of (settings retry) (comes_of event.entry) clock.0 (desk_of self.old.asking)) }
+        ensures { Did self.new (came_of event.entry) (turn_of (settings retry) (comes_of event.entry) clock.0 (desk_of_memory self.old)) }
     {
-        let say = self.asking.come(event, retry, clock);
+        let (asking, say) = self.asking.come(&mut self.requests, event, retry, clock);
+        self.asking = asking;
         self.say(say, clock);
     }
 }

@@ -9,7 +9,7 @@ use Rattle.desk_side.proofs.memory.Memory.greet.Goals as goal
 pub returns : goal.returns
 unfolding m.spoke_by
 returns c = λ b.
-    let ps : List Bytes = requests_in c.args.self.now.asking.requests in
+    let ps : List Bytes = requests_in c.args.self.now.requests in
     let g : Bytes = greeting_in c.write.new.self in
     record {
       knows = refl;

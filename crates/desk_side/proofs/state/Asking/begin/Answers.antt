@@ -5,4 +5,4 @@ use Rattle.desk_side.proofs.state.Asking.begin.Goals as goal
 
 pub returns : goal.returns
 unfolding m.desk_begins slots_of
-returns c = refl
+returns c = λ ps. refl

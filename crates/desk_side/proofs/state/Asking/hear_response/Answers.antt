@@ -9,35 +9,35 @@ use Rattle.desk_side.specs.Said.{tells}
 use Rattle.desk_side.specs.Slots.{blank}
 use Rattle.desk_side.specs.Steps.{waits, waits_if, settled}
 use Rattle.desk_side.specs.Sessions.{session_of}
-use Rattle.desk_side.specs.View.{desk_of, requests_in}
+use Rattle.desk_side.specs.View.{desk_of}
 use Rattle.desk_side.proofs.Heard.{response_other, response_answered}
 use Rattle.desk_side.proofs.state.Asking.hear_response.Goals as goal
 
 pub returns-then-not-is_session : goal.returns-then-not-is_session
-returns-then-not-is_session c = λ t b.
-    let other : is_session c.args.request.session.0 (session_of c.args.self.now.session) ≡ false = search rules in
-    response_other c.args.request.slot.0 c.args.request.seq.0 (take c.args.len (drop c.args.start b)) _ (desk_of c.args.self.now) other
+returns-then-not-is_session c = λ ps t b.
+    let other : is_session c.args.request.session.0 (session_of c.args.self.session) ≡ false = search rules in
+    response_other c.args.request.slot.0 c.args.request.seq.0 (take c.args.len (drop c.args.start b)) _ (desk_of ps c.args.self) other
 
 pub returns-in_default : goal.returns-in_default
-returns-in_default c = λ t b.
-    let is : is_session c.args.request.session.0 (session_of c.args.self.now.session) ≡ true = search rules in
-    let past : length c.args.self.now.slots ≤ c.args.request.slot.0 = search rules in
-    let none : waits c.args.request.slot.0 c.args.request.seq c.args.self.now.slots ≡ None =
-    ap (λ (y : Slot). waits_if (eqb y.seq.0 c.args.request.seq.0) y.waiting) (get_or_past c.args.self.now.slots c.args.request.slot.0 blank past) in
-    response_answered c.args.request.slot.0 c.args.request.seq (take c.args.len (drop c.args.start b)) _ c.args.self.now.slots (requests_in c.args.self.now.requests) (desk_of c.args.self.now) None refl is none
+returns-in_default c = λ ps t b.
+    let is : is_session c.args.request.session.0 (session_of c.args.self.session) ≡ true = search rules in
+    let past : length c.args.self.slots ≤ c.args.request.slot.0 = search rules in
+    let none : waits c.args.request.slot.0 c.args.request.seq c.args.self.slots ≡ None =
+    ap (λ (y : Slot). waits_if (eqb y.seq.0 c.args.request.seq.0) y.waiting) (get_or_past c.args.self.slots c.args.request.slot.0 blank past) in
+    response_answered c.args.request.slot.0 c.args.request.seq (take c.args.len (drop c.args.start b)) _ c.args.self.slots ps (desk_of ps c.args.self) None refl is none
 
 pub returns-in_default-waiting : goal.returns-in_default-waiting
-returns-in_default-waiting c = λ t b.
-    let is : is_session c.args.request.session.0 (session_of c.args.self.now.session) ≡ true = search rules in
-    let none : waits c.args.request.slot.0 c.args.request.seq c.args.self.now.slots ≡ None =
-    sym (ap₂ (λ (j : SlotId) (q : Seq). waits j.0 q c.args.self.now.slots) c.in-Some.ensures.0 c.in-Some.ensures.1) ∙ sym c.waiting.ensures ∙ c.in_default-waiting.is in
-    response_answered c.args.request.slot.0 c.args.request.seq (take c.args.len (drop c.args.start b)) _ c.args.self.now.slots (requests_in c.args.self.now.requests) (desk_of c.args.self.now) None refl is none
+returns-in_default-waiting c = λ ps t b.
+    let is : is_session c.args.request.session.0 (session_of c.args.self.session) ≡ true = search rules in
+    let none : waits c.args.request.slot.0 c.args.request.seq c.args.self.slots ≡ None =
+    sym (ap₂ (λ (j : SlotId) (q : Seq). waits j.0 q c.args.self.slots) c.in-Some.ensures.0 c.in-Some.ensures.1) ∙ sym c.waiting.ensures ∙ c.in_default-waiting.is in
+    response_answered c.args.request.slot.0 c.args.request.seq (take c.args.len (drop c.args.start b)) _ c.args.self.slots ps (desk_of ps c.args.self) None refl is none
 
 pub returns : goal.returns
-returns c = λ t b.
+returns c = λ ps t b.
     let x : Bytes = take c.args.len (drop c.args.start b) in
-    let is : is_session c.args.request.session.0 (session_of c.args.self.now.session) ≡ true = search rules in
-    let some : waits c.args.request.slot.0 c.args.request.seq c.args.self.now.slots ≡ Some c.in-Some-waiting.number =
-    sym (ap₂ (λ (j : SlotId) (q : Seq). waits j.0 q c.args.self.now.slots) c.in-Some.ensures.0 c.in-Some.ensures.1) ∙ sym c.waiting.ensures ∙ c.in-Some-waiting.is in
-    ap (tells c.in-Some-waiting.number.0 x) (c.settle.ensures ∙ ap₂ (λ (j : SlotId) (q : Seq). settled j.0 q.0 (desk_of c.args.self.now)) c.in-Some.ensures.0 c.in-Some.ensures.1)
-    ∙ response_answered c.args.request.slot.0 c.args.request.seq x _ c.args.self.now.slots (requests_in c.args.self.now.requests) (desk_of c.args.self.now) (Some c.in-Some-waiting.number) refl is some
+    let is : is_session c.args.request.session.0 (session_of c.args.self.session) ≡ true = search rules in
+    let some : waits c.args.request.slot.0 c.args.request.seq c.args.self.slots ≡ Some c.in-Some-waiting.number =
+    sym (ap₂ (λ (j : SlotId) (q : Seq). waits j.0 q c.args.self.slots) c.in-Some.ensures.0 c.in-Some.ensures.1) ∙ sym c.waiting.ensures ∙ c.in-Some-waiting.is in
+    ap (tells c.in-Some-waiting.number.0 x) (c.settle.ensures ps ∙ ap₂ (λ (j : SlotId) (q : Seq). settled j.0 q.0 (desk_of ps c.args.self)) c.in-Some.ensures.0 c.in-Some.ensures.1)
+    ∙ response_answered c.args.request.slot.0 c.args.request.seq x _ c.args.self.slots ps (desk_of ps c.args.self) (Some c.in-Some-waiting.number) refl is some
