@@ -24,7 +24,7 @@ impl Draft {
         ensures { self.new.bytes.items ≡ encode_msg (Welcome nonce.0 session.0) }
     {
         self.bytes.clear();
-        let _ = write_message(&mut self.bytes, Message::Welcome { nonce, session });
+        write_message(&mut self.bytes, Message::Welcome { nonce, session }).unwrap();
     }
 
     // Leaves place for what stands before the answer.
@@ -42,7 +42,7 @@ impl Draft {
         ensures few { vec_len self.new.bytes ≤ longest_message }
     {
         if let Some(outcome) = kept {
-            let _ = write_answer(&mut self.bytes, outcome.into());
+            write_answer(&mut self.bytes, outcome.into()).unwrap();
         }
     }
 
@@ -51,6 +51,6 @@ impl Draft {
         requires { (FRONT ≤ vec_len self.old.bytes) × (vec_len self.old.bytes ≤ longest_message) }
         ensures { self.new.bytes.items ≡ encode_msg (Response request.session.0 request.slot.0 request.seq.0 0 (drop FRONT self.old.bytes.items)) }
     {
-        let _ = seal_response(self.bytes.as_mut_slice(), request, Grant(0));
+        seal_response(self.bytes.as_mut_slice(), request, Grant(0)).unwrap();
     }
 }

@@ -38,7 +38,7 @@ pub enum Admit {
     Ignore,
 }
 
-// A slot counts its calls from 1: none was done yet.
+// No change was done yet. A seq and no Option of a slot: request 0 of an unused slot is answered again too, by no bytes.
 const UNUSED: Done = Done {
     seq: Seq(0),
     answer: None,

@@ -13,7 +13,7 @@ pub struct Place {
 }
 
 // There is no desk of this number.
-#[derive(Clone, Copy)]
+#[derive(Clone, Copy, Debug, PartialEq, Eq)]
 pub struct NoSuchDesk(pub DeskId);
 
 impl TryFrom<DeskId> for Place {
