@@ -1,10 +1,11 @@
 -- Why a change is turned away, where nobody holds anything.
-use Rattle.std.proofs.Common.{◌≡◌, ℕ, ◌+◌, ◌<◌, ◌≤◌, Bool, true, false, cond, not, ◌&&◌, ltb, leb, List, Result, Ok, Err, IsErrAnd, refl, ap, arith}
+use Rattle.std.proofs.Common.{◌≡◌, ℕ, ◌+◌, ◌<◌, ◌≤◌, Bool, true, false, cond, not, ◌&&◌, ltb, leb, List, Result, Ok, Err, IsErrAnd, refl, ap, ◌∙◌, arith}
 use Rattle.std.proofs.lemmas.Bool.Decides.{nat_tests}
 use Rattle.codec.specs.declared.answer.Changed.{Changed}
 use Rattle.codec.specs.declared.answer.Refusal.{Refusal}
+use Rattle.codec.specs.declared.answer.Refusal.TheVariants.{Missing}
 use Rattle.codec.specs.Answers.{refusal_number}
-use Rattle.promise.specs.Sheets.{Sheet, Name, State, Expect, Out, Edition, changes, no, find, is_sheet, put, weight, edition_of, as_expected, keep, none, other_edition, used_up, no_room}
+use Rattle.promise.specs.Sheets.{Sheet, Name, State, Expect, Out, Edition, changes, no, find, is_sheet, put, weight, edition_of, as_expected, keep, none, missing, other_edition, used_up, no_room}
 use Rattle.table.specs.Tables.{new_sheet, after_put, out_of, Admits}
 use Rattle.table.proofs.Readings.{plain}
 
@@ -43,3 +44,7 @@ admitted room d n e bs xs k w p q z r =
 pub turned_away : (r : Result Changed Refusal) (k : Refusal) (s : State) → IsErrAnd r (λ e. e ≡ k) → out_of r s ≡ no (refusal_number k) s
 turned_away (Ok r) k s h = absurd h
 turned_away (Err e) k s h = ap (λ (q : Refusal). no (refusal_number q) s) h
+
+-- and so is one for a sheet that is missing
+pub missed : (r : Result Changed Refusal) (k : Refusal) (s : State) → IsErrAnd r (λ e. e ≡ k) → k ≡ Missing → out_of r s ≡ no missing s
+missed r k s h e = turned_away r k s h ∙ ap (λ (q : Refusal). no (refusal_number q) s) e

@@ -159,9 +159,7 @@ impl Table {
         if !may_put(name, bytes) {
             return Err(Refusal::OutOfRange);
         }
-        let Ok(i) = self.look(name) else {
-            return Err(Refusal::Missing);
-        };
+        let i = self.find(name)?;
         let old = self.head(i).len;
         let end = at + bytes.len();
         if at > old || end > 1048576 {
@@ -179,9 +177,7 @@ impl Table {
         if !is_name(name) {
             return Err(Refusal::OutOfRange);
         }
-        let Ok(i) = self.look(name) else {
-            return Err(Refusal::Missing);
-        };
+        let i = self.find(name)?;
         if !as_expected(expect, self.head(i).edition) {
             return Err(Refusal::OtherEdition);
         }

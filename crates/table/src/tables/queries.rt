@@ -1,8 +1,8 @@
 // The calls that only read.
-ghost use Rattle.std.specs.Prelude.{◌≡◌, ℕ, ◌<◌, ◌≤◌, true, ◌&&◌, length, take, drop, nat_le, slice_index_or, vec_len};
+ghost use Rattle.std.specs.Prelude.{◌≡◌, ℕ, ◌<◌, ◌≤◌, true, ◌&&◌, IfOk, IfErr, OnErr, [], length, take, drop, nat_le, slice_index_or, vec_len};
 ghost use Rattle.promise.specs.Bytes.{all_bytes};
 ghost use Rattle.promise.specs.Sheets as t;
-ghost use Rattle.table.specs.View.{Finding, below, blank_head};
+ghost use Rattle.table.specs.View.{Finding, StandsAt, below, blank_head};
 ghost use Rattle.table.specs.Tables.{state_of, room_of, HasSheet, sheet_in, query_of, reply_of, Named};
 
 use crate::bytes::{is_bound, is_name};
@@ -71,6 +71,15 @@ impl Table {
         sheets.seek(name)
     }
 
+    // Where the sheet of a name stands, or that it is missing.
+    pub(crate) fn find(&self, name: &[u8]) -> Result<usize, Refusal>
+        ensures there { IfOk result (StandsAt (state_of self.now).sheets name.now) }
+        ensures missing { IfErr result (λ refusal. refusal ≡ Refusal.Missing) }
+        ensures none { OnErr result (t.find (t.is_sheet name.now) (state_of self.now).sheets ≡ []) }
+    {
+        self.look(name).or(Err(Refusal::Missing))
+    }
+
     // The name at an index.
     pub(crate) fn name(&self, i: usize) -> Option<&[u8]>
         ensures { Named (state_of self.now) i result }
@@ -106,9 +115,7 @@ impl Table {
         if !may_read(name, most) {
             return Err(Refusal::OutOfRange);
         }
-        let Ok(i) = self.look(name) else {
-            return Err(Refusal::Missing);
-        };
+        let i = self.find(name)?;
         let head = self.head(i);
         let bytes = self.bytes(i);
         Ok(Reading::Stretch {
