@@ -8,8 +8,13 @@ use crate::tables::Table;
 use std::alloc::{AllocError, Global};
 
 impl Table {
-    fn reserve(heap: Global, lent: usize) -> Result<Table, AllocError>
-        ensures { IfOk result (IsBegun lent) }
+    // An empty table. Its log and its heads take at most `lent` bytes together, beside space for one piece; nothing is allocated later. What
+    // calls do from here on is tidy, keeps what is held, reads what was put, and leaves all as it was where it is turned away.
+    #[tactic(auto, using(laws::proofs::Laws::table_laws, laws::proofs::Worked::cases_answered))]
+    pub fn begin(heap: Global, lent: usize) -> Result<Table, AllocError>
+        ensures empty { IfOk result (IsBegun lent) }
+        ensures laws { TableLaws }
+        ensures cases { CasesAnswered }
     {
         let room = (lent / 2).min(268435456);
         let count = room / 512;
@@ -24,15 +29,5 @@ impl Table {
             load: 0,
             changes: 0,
         })
-    }
-
-    // An empty table. Its log and its heads take at most `lent` bytes together, beside space for one piece; nothing is allocated later. What
-    // calls do from here on is tidy, keeps what is held, reads what was put, and leaves all as it was where it is turned away.
-    pub fn begin(heap: Global, lent: usize) -> Result<Table, AllocError>
-        ensures empty { IfOk result (IsBegun lent) }
-        ensures laws { TableLaws }
-        ensures cases { CasesAnswered }
-    {
-        Table::reserve(heap, lent)
     }
 }
