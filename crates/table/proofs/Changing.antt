@@ -19,6 +19,13 @@ patched_length at bs old l =
     let d = length-drop (at + length bs) old in
     ap length (patched_parts at bs old) ∙ omega arith
 
+-- a sheet that was written over is as long as was said
+pub filled_length : (xs : List Sheet) (i at : ℕ) (bs : List ℕ) (len e : ℕ) → at ≤ length (get_or xs i blank_sheet).bytes → len ≤ max (length (get_or xs i blank_sheet).bytes) (at + length bs) → length (filled_sheet xs i at bs len e).bytes ≡ len
+filled_length xs i at bs len e l k =
+    let old : List ℕ = (get_or xs i blank_sheet).bytes in
+    let p = patched_length at bs old l in
+    length-take len (patched at bs old) ∙ omega arith
+
 -- all bytes written from the beginning are the sheet's bytes
 pub put_filled : (xs : List Sheet) (n : Name) (i : ℕ) (bs : List ℕ) (e : ℕ) → (get_or xs i blank_sheet).name ≡ n → filled_sheet xs i 0 bs (length bs) e ≡ record { name = n; bytes = bs; edition = e }
 put_filled xs n i bs e p =

@@ -72,7 +72,7 @@ impl Table {
 
     // What all sheets weigh once one of so many bytes stands at a place.
     // (That `len` is small stands in several contracts: a type for it would be taken apart again at each sum.)
-    fn weigh(&self, place: Result<usize, usize>, len: usize) -> usize
+    pub(crate) fn weigh(&self, place: Result<usize, usize>, len: usize) -> usize
         requires within { HasPlace self.now place }
         requires small { len ≤ 1048576 }
         ensures { (x : t.Sheet) → length x.bytes ≡ len → result ≡ t.weight (laid (state_of self.now).sheets place x) }
@@ -114,14 +114,13 @@ impl Table {
         requires admitted { Admits (room_of self.old) (state_of self.old) (after_put name.now bytes.now (state_of self.old)).sheets }
         ensures { Becomes self.old self.new (after_put name.now bytes.now (state_of self.old)) }
     {
-        let load = self.weigh(place, bytes.len());
         match place {
             Ok(i) if bytes.len() <= self.head(i).size => {
-                self.fill(i, 0, bytes, bytes.len(), load);
+                self.fill(i, 0, bytes, bytes.len());
             }
             _ => {
                 self.make_way(name.len() + bytes.len());
-                self.append(place, name, bytes, load);
+                self.append(place, name, bytes);
             }
         }
     }
@@ -135,9 +134,8 @@ impl Table {
         requires admitted { Admits (room_of self.old) (state_of self.old) (after_patch name.now i at bytes.now (state_of self.old)).sheets }
         ensures { Becomes self.old self.new (after_patch name.now i at bytes.now (state_of self.old)) }
     {
-        let load = self.weigh(Ok(i), len);
         self.make_fit(i, len);
-        self.fill(i, at, bytes, len, load);
+        self.fill(i, at, bytes, len);
     }
 
     fn put(&mut self, name: &[u8], expect: Expect, bytes: &[u8]) -> Outcome

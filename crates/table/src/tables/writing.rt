@@ -30,24 +30,18 @@ fn enter(heads: &mut Vec<Head>, place: Result<usize, usize>, head: Head)
 
 impl Table {
     // Lays a sheet at a place, written behind all others.
-    pub(crate) fn append(
-        &mut self,
-        place: Result<usize, usize>,
-        name: &[u8],
-        bytes: &[u8],
-        load: usize,
-    )
+    pub(crate) fn append(&mut self, place: Result<usize, usize>, name: &[u8], bytes: &[u8])
         requires within { HasPlace self.old place }
         requires fits { FitsSheet name.now bytes.now }
         requires free { vec_len self.old.log + length name.now + length bytes.now ≤ vec_capacity self.old.log }
         requires sorted { rising (laid (state_of self.old).sheets place (new_sheet name.now bytes.now (state_of self.old))) ≡ true }
-        requires weighed { load ≡ t.weight (laid (state_of self.old).sheets place (new_sheet name.now bytes.now (state_of self.old))) }
         requires admitted { Admits (room_of self.old) (state_of self.old) (laid (state_of self.old).sheets place (new_sheet name.now bytes.now (state_of self.old))) }
         ensures { Becomes self.old self.new (edited (laid (state_of self.old).sheets place (new_sheet name.now bytes.now (state_of self.old))) (state_of self.old)) }
     {
         let at = self.log.len();
         let width = name.len();
         let len = bytes.len();
+        let load = self.weigh(place, len);
         let count = self.changes + 1;
         append(&mut self.log, name);
         append(&mut self.log, bytes);
@@ -98,17 +92,17 @@ impl Table {
     }
 
     // Writes bytes into the piece of a sheet, which has so many bytes then.
-    pub(crate) fn fill(&mut self, i: usize, offset: usize, bytes: &[u8], len: usize, load: usize)
+    pub(crate) fn fill(&mut self, i: usize, offset: usize, bytes: &[u8], len: usize)
         requires within { HasSheet self.old i }
         requires fits { len ≤ size_in self.old i }
         requires begun { offset ≤ length (sheet_in (state_of self.old) i).bytes }
         requires whole { offset + length bytes.now ≤ len }
         requires known { len ≤ max (length (sheet_in (state_of self.old) i).bytes) (offset + length bytes.now) }
-        requires weighed { load ≡ t.weight (filled i offset bytes.now len (state_of self.old)) }
         requires admitted { Admits (room_of self.old) (state_of self.old) (filled i offset bytes.now len (state_of self.old)) }
         ensures { Becomes self.old self.new (edited (filled i offset bytes.now len (state_of self.old)) (state_of self.old)) }
     {
         let h = self.head(i);
+        let load = self.weigh(Ok(i), len);
         let count = self.changes + 1;
         overwrite(&mut self.log, h.at + h.width + offset, bytes);
         self.heads[i] = Head {

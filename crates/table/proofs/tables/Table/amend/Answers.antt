@@ -1,23 +1,9 @@
 use Rattle.std.proofs.Common.{◌≡◌, ℕ, ◌+◌, List, set, sym, refl, ap, ◌∙◌}
-use Rattle.promise.specs.Sheets.{Sheet, State, weight, patched}
+use Rattle.promise.specs.Sheets.{Sheet, State, patched}
 use Rattle.table.specs.Tables.{state_of, new_sheet, sheet_in, filled, edited}
-use Rattle.table.proofs.Changing.{patch_filled, patched_length}
+use Rattle.table.proofs.Changing.{patch_filled}
 use Rattle.table.proofs.Verdicts.{admits_as}
 use Rattle.table.proofs.tables.Table.amend.Goals as goal
-
-pub fill-requires-clause-weighed : goal.fill-requires-clause-weighed
-fill-requires-clause-weighed c =
-    let t = c.args.self.now in
-    let e = c.make_fit.ensures.same.state in
-    let i = c.args.i in
-    let s = c.requires.spotted in
-    let bs = c.args.bytes.now in
-    let old : List ℕ = (sheet_in (state_of t) i).bytes in
-    let x : Sheet = new_sheet c.args.name.now (patched c.args.at bs old) (state_of t) in
-    let w = c.weigh-load.ensures x (patched_length c.args.at bs old c.requires.begun ∙ sym c.requires.whole) in
-    let pf = patch_filled (state_of t).sheets c.args.name.now i c.args.at c.args.len bs (t.changes + 1) s.named c.requires.begun c.requires.whole in
-    let z : filled i c.args.at bs c.args.len (state_of c.make_fit.new.self) ≡ set (state_of t).sheets i x = ap (filled i c.args.at bs c.args.len) e ∙ ap (set (state_of t).sheets i) pf in
-    w ∙ ap weight (sym z)
 
 pub fill-requires-clause-admitted : goal.fill-requires-clause-admitted
 fill-requires-clause-admitted c =
@@ -28,7 +14,6 @@ fill-requires-clause-admitted c =
     let bs = c.args.bytes.now in
     let old : List ℕ = (sheet_in (state_of t) i).bytes in
     let x : Sheet = new_sheet c.args.name.now (patched c.args.at bs old) (state_of t) in
-    let w = c.weigh-load.ensures x (patched_length c.args.at bs old c.requires.begun ∙ sym c.requires.whole) in
     let pf = patch_filled (state_of t).sheets c.args.name.now i c.args.at c.args.len bs (t.changes + 1) s.named c.requires.begun c.requires.whole in
     let z : filled i c.args.at bs c.args.len (state_of c.make_fit.new.self) ≡ set (state_of t).sheets i x = ap (filled i c.args.at bs c.args.len) e ∙ ap (set (state_of t).sheets i) pf in
     admits_as t.room c.make_fit.new.self.room (state_of t) (state_of c.make_fit.new.self) _ _ c.make_fit.ensures.same.room e (z ∙ sym (s.puts x refl)) c.requires.admitted

@@ -1,5 +1,5 @@
 use Rattle.std.proofs.Common.{◌≡◌, ℕ, ◌+◌, true, List, length, set, sym, refl, ap, ◌∙◌, subst}
-use Rattle.promise.specs.Sheets.{Sheet, State, weight}
+use Rattle.promise.specs.Sheets.{Sheet, State}
 use Rattle.table.specs.View.{rising, laid, StandsAt, Finding}
 use Rattle.table.specs.Tables.{state_of, new_sheet, filled, edited, after_put}
 use Rattle.table.proofs.Weights.{rising_put}
@@ -12,16 +12,6 @@ use Rattle.table.proofs.tables.Table.store.Goals.{in_default-via-in-Ok+else-byte
 -- bytes written over a sheet are all that it has then
 stored : (s : State) (n : List ℕ) (bs : List ℕ) (i : ℕ) → StandsAt s.sheets n i → filled i 0 bs (length bs) s ≡ (after_put n bs s).sheets
 stored s n bs i f = ap (set s.sheets i) (put_filled s.sheets n i bs (s.changes' + 1) f.named) ∙ sym (f.puts (new_sheet n bs s) refl)
-
-pub fill-requires-clause-weighed : goal.fill-requires-clause-weighed
-fill-requires-clause-weighed c =
-    let t = c.args.self.now in
-    let n = c.args.name.now in
-    let bs = c.args.bytes.now in
-    let f : StandsAt (state_of t).sheets n c.in-Ok.i = subst (Finding (state_of t).sheets n) c.in-Ok.is c.requires.spotted in
-    let x : Sheet = new_sheet n bs (state_of t) in
-    let z = stored (state_of t) n bs c.in-Ok.i f in
-    c.weigh-load.ensures x refl ∙ ap weight (sym (puts_at (state_of t).sheets n c.args.place c.requires.spotted x refl) ∙ sym z)
 
 pub fill-requires-clause-admitted : goal.fill-requires-clause-admitted
 fill-requires-clause-admitted c =
