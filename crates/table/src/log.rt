@@ -19,7 +19,7 @@ pub fn append(log: &mut Vec<u8>, bytes: &[u8])
     ensures items { log.new.items ≡ log.old.items ++ bytes.now }
     ensures capacity { vec_capacity log.old ≤ vec_capacity log.new }
 {
-    let _ = log.extend_from_slice(bytes);
+    log.extend_from_slice(bytes).unwrap();
 }
 
 // Bytes copied behind all others, with zeros up to a length.
@@ -31,6 +31,6 @@ pub fn copy_behind(log: &mut Vec<u8>, from: usize, n: usize, len: usize)
     ensures capacity { vec_capacity log.old ≤ vec_capacity log.new }
 {
     let end = log.len() + len;
-    let _ = log.extend_from_within(from..from + n);
-    let _ = log.resize(end, 0);
+    log.extend_from_within(from..from + n).unwrap();
+    log.resize(end, 0).unwrap();
 }

@@ -21,10 +21,8 @@ fn enter(heads: &mut Vec<Head>, place: Result<usize, usize>, head: Head)
 {
     match place {
         Ok(i) => heads[i] = head,
-        Err(i) => {
-            // no memory is asked for, so nothing can fail
-            let _ = heads.insert(i, head);
-        }
+        // no memory is asked for, so nothing can fail
+        Err(i) => heads.insert(i, head).unwrap(),
     }
 }
 
@@ -87,7 +85,7 @@ impl Table {
         ensures { Becomes self.old self.new (record { sheets = remove (state_of self.old).sheets i; holds = []; changes' = self.old.changes }) }
     {
         let h = self.head(i);
-        let _ = self.heads.remove(i);
+        self.heads.remove(i);
         self.load -= 512 + h.len;
     }
 
