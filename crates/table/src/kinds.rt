@@ -1,5 +1,7 @@
-// Calls told apart: those that only read, and those that may change the table. (With `Call` alone, each of the two functions that take
-// them would have to say what it does with the other's calls.)
+// Calls told apart: those that only read, and those that may change the table.
+// (The codec's `Call` is not made of a `Query` and a `Change`: what a message carries is one of eight calls, by the number of its kind, and
+// which of them only read is nothing to the codec. With `Call` alone, each of the two functions that take them would have to say what it
+// does with the other's calls.)
 use crate::tables::changes::Change;
 use crate::tables::queries::Query;
 use codec::call::Call;

@@ -24,7 +24,7 @@ impl<'a> Sheets<'a> {
     }
 
     // Halves down to a stretch of at most 16 heads: the rank of the name is in it or at its end.
-    // (`partition_point` halves down to one head: it would leave `rank_of` no names to walk.)
+    // (`partition_point` halves down to one head, and would leave no names to walk: that they are walked is a rule here, named in `rank_of`.)
     fn narrow(&self, name: &[u8]) -> (usize, usize)
         ensures low { result.0 ≤ rank name.now (sheets_in self.now) }
         ensures high { rank name.now (sheets_in self.now) ≤ result.1 }

@@ -60,6 +60,8 @@ fn may_put(name: &[u8], bytes: &[u8]) -> bool
 
 impl Table {
     // The edition of what stands at a place, 0 for nothing.
+    // (That it is a place of this table is asked by each method that takes one: a type that kept this would have to borrow the table, and
+    // no method that changes the table could take it.)
     fn edition_at(&self, place: Result<usize, usize>) -> Edition
         requires { HasPlace self.now place }
         ensures { result.0 ≡ t.edition_of (standing (state_of self.now).sheets place) }
@@ -108,6 +110,8 @@ impl Table {
     }
 
     // All bytes of a sheet, in its own piece if they fit, else behind all others.
+    // (That the change is admitted is asked here and in what is called: a proof of it that `admit` handed on would have to borrow the table,
+    // which is changed before all is written.)
     fn store(&mut self, name: &[u8], place: Result<usize, usize>, bytes: &[u8])
         requires spotted { Finding (state_of self.old).sheets name.now place }
         requires fits { FitsSheet name.now bytes.now }

@@ -89,6 +89,8 @@ impl Table {
     }
 
     // The head at an index.
+    // (That a sheet stands there is asked by each method that takes an index: a type that kept this would have to borrow the table, and
+    // no method that changes the table could take it.)
     pub(crate) fn head(&self, i: usize) -> Head
         requires { HasSheet self.now i }
         ensures value { result ≡ slice_index_or self.now.heads.items i blank_head }

@@ -26,6 +26,8 @@ fn enter(heads: &mut Vec<Head>, place: Result<usize, usize>, head: Head)
     }
 }
 
+// (An index, a place and what is admitted are those of the table as a method finds it: a type for any of them would have to borrow the
+// table, which these methods change. So each contract asks for what it needs.)
 impl Table {
     // Lays a sheet at a place, written behind all others.
     pub(crate) fn append(&mut self, place: Result<usize, usize>, name: &[u8], bytes: &[u8])
