@@ -2,7 +2,6 @@
 ghost use Rattle.std.specs.Prelude.{◌≡◌, ◌+◌, ◌*◌, ◌<◌, ◌≤◌, max, true, IsErr, [], length, vec_len, vec_capacity};
 ghost use Rattle.std.specs.List.{remove};
 ghost use Rattle.std.specs.List.Sorted.{IsSearchInRange};
-ghost use Rattle.promise.specs.Sheets as t;
 ghost use Rattle.table.specs.View.{rising, laid};
 ghost use Rattle.table.specs.Tables.{state_of, room_of, HasSheet, HasPlace, sheet_in, size_in, new_sheet, filled, edited, Admits, FitsSheet, Becomes};
 
