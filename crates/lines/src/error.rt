@@ -1,5 +1,5 @@
 // Why a line is none.
-ghost use Rattle.std.specs.Prelude.{Some};
+ghost use Rattle.std.specs.Prelude.{◌≡◌, Some};
 ghost use Rattle.lines.specs.Errors.{error_text};
 
 use std::error::Error;
@@ -18,11 +18,12 @@ pub enum LineError {
     NoRoom,
 }
 
-impl fmt::Display for LineError {
-    ghost output = { λ e. Some (error_text e) };
-
-    fn fmt<W: fmt::Write>(&self, f: &mut fmt::Formatter<W>) -> fmt::Result {
-        f.write_str(match self {
+impl LineError {
+    // What is said of such a line.
+    pub fn text(self) -> &'static str
+        ensures { result.now ≡ error_text self }
+    {
+        match self {
             LineError::UnknownWord => "unknown word",
             LineError::MissingWord => "a word is missing",
             LineError::ExtraWord => "a word too many",
@@ -30,7 +31,15 @@ impl fmt::Display for LineError {
             LineError::BadHex => "bad hexadecimal",
             LineError::BadWord => "a byte that cannot be seen",
             LineError::NoRoom => "too long",
-        })
+        }
+    }
+}
+
+impl fmt::Display for LineError {
+    ghost output = { λ e. Some (error_text e) };
+
+    fn fmt<W: fmt::Write>(&self, f: &mut fmt::Formatter<W>) -> fmt::Result {
+        f.write_str(self.text())
     }
 }
 

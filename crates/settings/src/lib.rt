@@ -44,15 +44,24 @@ pub enum Wrong {
     Retry,
 }
 
+impl Wrong {
+    // What is said of such arguments.
+    pub fn text(self) -> &'static str
+        ensures { result.now ≡ wrong_text self }
+    {
+        match self {
+            Wrong::Count => "too few or too many arguments",
+            Wrong::Desk => "a desk's number is 1 to 63",
+            Wrong::Retry => "a retransmission time is 1 to 50000 ms",
+        }
+    }
+}
+
 impl fmt::Display for Wrong {
     ghost output = { λ wrong. Some (wrong_text wrong) };
 
     fn fmt<W: fmt::Write>(&self, f: &mut fmt::Formatter<W>) -> fmt::Result {
-        f.write_str(match self {
-            Wrong::Count => "too few or too many arguments",
-            Wrong::Desk => "a desk's number is 1 to 63",
-            Wrong::Retry => "a retransmission time is 1 to 50000 ms",
-        })
+        f.write_str(self.text())
     }
 }
 
