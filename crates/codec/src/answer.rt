@@ -37,6 +37,7 @@ pub enum Changed {
 // What became of a change: it was done, or turned away.
 pub type Outcome = Result<Changed, Refusal>;
 
+// `No` is one of its kinds, and no `Err` of a `Result`: the five kinds are the five first bytes of the layout.
 #[derive(Clone, Copy, Debug, PartialEq, Eq)]
 pub enum Answer<'a> {
     No(Refusal),
@@ -53,6 +54,9 @@ pub enum Answer<'a> {
         names: &'a [u8],
     },
 }
+
+// The answer that eight calls wait, as bytes.
+pub const EIGHT_WAIT: [u8; 2] = [0, 11];
 
 // The first byte of an answer says which it is.
 #[derive(Clone, Copy, Debug, PartialEq, Eq)]

@@ -1,22 +1,13 @@
 // Bytes read as an answer.
 ghost use Rattle.std.specs.Prelude.{◌≡◌, ◌^◌, ◌<◌, IsTrue, length};
 ghost use Rattle.std.specs.Option.{option_map};
-ghost use Rattle.promise.specs.Bytes.{lengthed_in};
 ghost use Rattle.promise.specs.Layout.{names_out, no_in, yes_in, edition_in, got_in, found_in, reply_in, decode_reply};
-ghost use Rattle.codec.specs.Views.{parted};
 ghost use Rattle.codec.specs.Statements.{RepliesReadBack, RepliesHaveOneForm};
 ghost use Rattle.codec.specs.Answers.{are_names, names_of, answer_kind_number, reply_of};
 
 use crate::answer::*;
 use crate::bytes::*;
 use ids::Edition;
-
-// The first of the names in an answer, and the rest of them.
-pub fn next_name(names: &[u8]) -> Option<(&[u8], &[u8])>
-    ensures { option_map parted result ≡ lengthed_in 1 names.now }
-{
-    read_name(names)
-}
 
 // Whether these bytes are just so many names, each with its length before it.
 #[tactic(auto, using(crate::proofs::NamesRead::names_step, crate::proofs::NamesRead::names_stop))]
@@ -99,7 +90,7 @@ pub fn read_answer(b: &[u8]) -> Option<Answer<'_>>
     ensures back { RepliesReadBack }
     ensures form { RepliesHaveOneForm }
 {
-    // By a rule of this project a reader's answer is taken apart by `let .. else` here; elsewhere `?` does it.
+    // the reader's answer is taken apart by `let .. else`: docs/DECISIONS.md, "Code forms"; elsewhere `?` does it
     let Some((number, body)) = read_number::<u8, _>(b) else {
         return None;
     };

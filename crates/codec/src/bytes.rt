@@ -91,9 +91,9 @@ pub(crate) fn read_part(b: &[u8], size: usize) -> Option<(&[u8], &[u8])>
     b.split_at_checked(size)
 }
 
-// A length in one byte, and then so many bytes. One function for this and for `read_bytes`, generic in the length's type, would
+// A length in one byte, and then so many bytes: also the first of the names in an answer, and the rest of them. One function for this and for `read_bytes`, generic in the length's type, would
 // need a way from each such type to a length, and be no plainer than these two lines each; so it is with their writers.
-pub(crate) fn read_name(b: &[u8]) -> Option<(&[u8], &[u8])>
+pub fn read_name(b: &[u8]) -> Option<(&[u8], &[u8])>
     ensures { option_map parted result ≡ lengthed_in 1 b.now }
 {
     let (size, rest) = read_number::<u8, _>(b)?;

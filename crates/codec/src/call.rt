@@ -3,7 +3,7 @@ use crate::UnknownKind;
 use ids::Edition;
 
 // Which edition a change expects its sheet to have; edition 0 is a sheet that isn't there.
-// An enum of its own, as this project asks for: the `None` of an `Option` would read as no sheet.
+// An enum inside that of a call: docs/DECISIONS.md, "Code forms"; and the `None` of an `Option` would read as no sheet.
 #[derive(Clone, Copy, Debug, PartialEq, Eq)]
 pub enum Expect {
     Any,
@@ -109,14 +109,14 @@ impl<'a> Call<'a> {
         ensures { result.now ≡ name_of (call_of self.entry) }
     {
         match self {
-            Call::Read { name, .. } => name,
-            Call::Put { name, .. } => name,
-            Call::Patch { name, .. } => name,
-            Call::Remove { name, .. } => name,
-            Call::Rename { name, .. } => name,
-            Call::Names { after, .. } => after,
-            Call::Take { name, .. } => name,
-            Call::LetGo { name } => name,
+            Call::Read { name, .. }
+            | Call::Put { name, .. }
+            | Call::Patch { name, .. }
+            | Call::Remove { name, .. }
+            | Call::Rename { name, .. }
+            | Call::Names { after: name, .. }
+            | Call::Take { name, .. }
+            | Call::LetGo { name } => name,
         }
     }
 }

@@ -138,7 +138,7 @@ pub fn read_call(b: &[u8]) -> Option<Call<'_>>
     ensures back { CallsReadBack }
     ensures form { CallsHaveOneForm }
 {
-    // By a rule of this project a reader's answer is taken apart by `let .. else` here; elsewhere `?` does it.
+    // the reader's answer is taken apart by `let .. else`: docs/DECISIONS.md, "Code forms"; elsewhere `?` does it
     let Some((number, body)) = read_number::<u8, _>(b) else {
         return None;
     };

@@ -17,8 +17,12 @@ pub struct Frame<'a> {
     pub bytes: &'a [u8],
 }
 
-fn first_frame(b: &[u8]) -> Option<(Frame<'_>, &[u8])>
-    ensures { option_map frame_of result ≡ frame_in b.now }
+// The first frame of what came on a line, and what follows it; None where it isn't all there.
+#[tactic(auto, using(crate::proofs::FramesBack::frames_back))]
+pub fn read_frame(b: &[u8]) -> Option<(Frame<'_>, &[u8])>
+    ensures value { option_map frame_of result ≡ frame_in b.now }
+    ensures back { FramesReadBack }
+    ensures form { FramesHaveOneForm }
 {
     let (whole, rest) = read_bytes(b)?;
     let (number, bytes) = read_number::<u64, _>(whole)?;
@@ -29,15 +33,6 @@ fn first_frame(b: &[u8]) -> Option<(Frame<'_>, &[u8])>
         },
         rest,
     ))
-}
-
-// The first frame of what came on a line, and what follows it; None where it isn't all there.
-pub fn read_frame(b: &[u8]) -> Option<(Frame<'_>, &[u8])>
-    ensures value { option_map frame_of result ≡ frame_in b.now }
-    ensures back { FramesReadBack }
-    ensures form { FramesHaveOneForm }
-{
-    first_frame(b)
 }
 
 // A frame behind what is there already. Where it does not fit, all stays as it was.

@@ -12,9 +12,11 @@ mod call_writer;
 pub mod frame;
 mod refusal;
 
-pub use answer_reader::{next_name, read_answer};
+ghost use Rattle.std.specs.Prelude.{◌++◌, Some, codes, decimal};
+
+pub use answer_reader::read_answer;
 pub use answer_writer::write_answer;
-pub use bytes::{Number, read_number};
+pub use bytes::{Number, read_name as next_name, read_number};
 pub use call_reader::read_call;
 pub use call_writer::write_call;
 pub use frame::{read_frame, write_frame};
@@ -26,6 +28,8 @@ use std::fmt;
 pub struct DoesNotFit;
 
 impl fmt::Display for DoesNotFit {
+    ghost output = { λ _. Some (codes "it does not fit") };
+
     fn fmt<W: fmt::Write>(&self, f: &mut fmt::Formatter<W>) -> fmt::Result {
         f.write_str("it does not fit")
     }
@@ -38,6 +42,8 @@ impl Error for DoesNotFit {}
 pub struct UnknownKind(pub u8);
 
 impl fmt::Display for UnknownKind {
+    ghost output = { λ kind. Some (codes "nothing begins by the byte " ++ decimal kind.0) };
+
     fn fmt<W: fmt::Write>(&self, f: &mut fmt::Formatter<W>) -> fmt::Result {
         write!(f, "nothing begins by the byte {}", self.0)
     }
