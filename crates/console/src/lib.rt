@@ -60,7 +60,9 @@ impl Console {
     }
 
     // Reports the line in hand, which says nothing, with its number and why.
-    pub fn report<D: Display + Drop>(&mut self, why: D) -> io::Result<()> {
+    pub fn report<D: Display + Drop>(&mut self, why: D) -> io::Result<()>
+        ensures { OnOk result (self.new.text.items ≡ []) }
+    {
         let number = self.line;
         write!(&mut self.text, "line {number}: {why}\n")?;
         self.complain()
