@@ -11,6 +11,10 @@ hex_digit d = cond (nat_lt d 10) (48 + d) (87 + d)
 abbrev pub hex_value : ℕ → Option ℕ
 hex_value b = cond (nat_le 48 b && nat_le b 57) (Some (b - 48)) (cond (nat_le 97 b && nat_le b 102) (Some (b - 87)) None)
 
+-- the two digits of a byte
+abbrev pub hex_pair : ℕ → Bytes
+hex_pair b = hex_digit (b / 16) ∷ hex_digit (b % 16) ∷ []
+
 abbrev pub hex_pairs : Bytes → Bytes
 hex_pairs [] = []
 hex_pairs (b ∷ bs) = hex_digit (b / 16) ∷ hex_digit (b % 16) ∷ hex_pairs bs

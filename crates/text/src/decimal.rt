@@ -1,4 +1,5 @@
-// Decimal numbers, without leading zeros.
+// Decimal numbers, without leading zeros. They are read and printed by hand: no heap is used here, the room is exact, and `parse` takes other
+// spellings too, such as `+7`.
 ghost use Rattle.std.specs.Prelude.{◌≡◌, ℕ, ◌+◌, ◌<◌, ◌≤◌, length, IfSome, vec_len, vec_capacity};
 ghost use Rattle.std.specs.Option.{option_map};
 ghost use Rattle.text.specs.Laws.{WrittenBack, DecimalAgain};

@@ -1,14 +1,15 @@
-// Bytes in lowercase hexadecimal; `-` stands for no bytes.
+// Bytes in lowercase hexadecimal; `-` stands for no bytes. Digits are read and printed by hand: no heap is used here, the room is exact, and
+// `from_str_radix` takes other spellings too, such as `+7` and `FF`.
 ghost use Rattle.std.specs.Prelude.{◌≡◌, ℕ, ◌+◌, ◌*◌, ◌/◌, ◌<◌, ◌≤◌, length, IfSome, if◌then◌else◌, Err, vec_len, vec_capacity, nat_le};
 ghost use Rattle.std.specs.Option.{option_map, ok_or};
 ghost use Rattle.text.specs.Laws.{WrittenBack, HexAgain};
 ghost use Rattle.text.specs.Readings.{ahead, read_as};
 ghost use Rattle.text.specs.Writings.{Appends, Writes};
-ghost use Rattle.text.specs.Hex.{hex_digit, hex_value, hex_pairs, hex_text, pair_value, pairs_in, hex_in};
+ghost use Rattle.text.specs.Hex.{hex_digit, hex_value, hex_pair, hex_pairs, hex_text, pair_value, pairs_in, hex_in};
 
 use crate::room::{NoRoom, Unread, need_room};
 
-pub(crate) fn hex_digit(d: u8) -> u8
+fn hex_digit(d: u8) -> u8
     requires { d < 16 }
     ensures { result ≡ hex_digit d }
 {
@@ -26,14 +27,22 @@ pub(crate) fn hex_value(b: u8) -> Option<u8>
     }
 }
 
+// The two digits of a byte.
+pub(crate) fn push_pair(out: &mut Vec<u8>, b: u8)
+    requires { vec_len out.old + 2 ≤ vec_capacity out.old }
+    ensures { Appends out.old out.new (hex_pair b) }
+{
+    out.push_reserved(hex_digit(b / 16));
+    out.push_reserved(hex_digit(b % 16));
+}
+
 #[tactic(auto, using(crate::proofs::Lengths::length_pairs))]
 fn push_pairs(out: &mut Vec<u8>, bytes: &[u8])
     requires { vec_len out.old + 2 * length bytes.now ≤ vec_capacity out.old }
     ensures { Appends out.old out.new (hex_pairs bytes.now) }
 {
     for b in bytes {
-        out.push_reserved(hex_digit(*b / 16));
-        out.push_reserved(hex_digit(*b % 16));
+        push_pair(out, *b);
     }
 }
 

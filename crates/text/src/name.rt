@@ -6,7 +6,7 @@ ghost use Rattle.text.specs.Names.{is_plain, numbered, escape, escaped, name_tex
 ghost use Rattle.text.specs.Readings.{ahead, read_as};
 ghost use Rattle.text.specs.Writings.{Appends, Writes};
 
-use crate::hex::{hex_digit, pair_value};
+use crate::hex::{pair_value, push_pair};
 use crate::room::{NoRoom, Unread, need_room};
 
 // The longest name, in bytes.
@@ -15,7 +15,7 @@ pub const LONGEST: usize = 255;
 fn is_plain(b: u8) -> bool
     ensures { result ≡ is_plain b }
 {
-    matches!(b, 0x21..=0x7e) && b != b'%'
+    b.is_ascii_graphic() && b != b'%'
 }
 
 fn push_number(out: &mut Vec<u8>, b: u8)
@@ -23,8 +23,7 @@ fn push_number(out: &mut Vec<u8>, b: u8)
     ensures { Appends out.old out.new (numbered b) }
 {
     out.push_reserved(b'%');
-    out.push_reserved(hex_digit(b / 16));
-    out.push_reserved(hex_digit(b % 16));
+    push_pair(out, b);
 }
 
 fn push_escape(out: &mut Vec<u8>, b: u8)

@@ -1,5 +1,6 @@
 // What a writer or a reader answers that has no room.
-ghost use Rattle.std.specs.Prelude.{◌≡◌, ◌+◌, ◌≤◌, ◌↔◌, IsOk, vec_len, vec_capacity};
+ghost use Rattle.std.specs.Prelude.{◌≡◌, ◌+◌, ◌≤◌, ◌↔◌, IsOk, Some, codes, vec_len, vec_capacity};
+ghost use Rattle.text.specs.Readings.{unread_text};
 
 use std::error::Error;
 use std::fmt;
@@ -16,19 +17,23 @@ pub enum Unread {
 }
 
 impl fmt::Display for NoRoom {
+    ghost output = { λ _. Some (codes "no room to write") };
+
     fn fmt<W: fmt::Write>(&self, f: &mut fmt::Formatter<W>) -> fmt::Result {
-        write!(f, "no room to write")
+        f.write_str("no room to write")
     }
 }
 
 impl Error for NoRoom {}
 
 impl fmt::Display for Unread {
+    ghost output = { λ unread. Some (unread_text unread) };
+
     fn fmt<W: fmt::Write>(&self, f: &mut fmt::Formatter<W>) -> fmt::Result {
-        match self {
-            Unread::Malformed => write!(f, "malformed"),
-            Unread::NoRoom => write!(f, "no room to read into"),
-        }
+        f.write_str(match self {
+            Unread::Malformed => "malformed",
+            Unread::NoRoom => "no room to read into",
+        })
     }
 }
 
