@@ -2,6 +2,7 @@
 ghost use Rattle.std.specs.Prelude.{◌≡◌, ◌↔◌, IsTrue};
 ghost use Rattle.promise.specs.Layout.{is_busy};
 
+use codec::answer::EIGHT_WAIT;
 use ids::{Grant, Nonce, RequestId, Session};
 
 #[derive(Clone, Copy)]
@@ -39,7 +40,7 @@ pub(crate) const TOO_LONG: usize = 0x8000_0000;
 pub(crate) fn is_busy(answer: &[u8]) -> bool
     ensures { result ≡ is_busy answer.now }
 {
-    answer == [0, 11].as_slice()
+    answer == EIGHT_WAIT.as_slice()
 }
 
 impl<'a> Message<'a> {

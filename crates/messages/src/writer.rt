@@ -1,4 +1,4 @@
-// Messages written as bytes, behind others for which there is room, or in a lent part.
+// Messages written as bytes, behind others for which there is room.
 ghost use Rattle.std.specs.Prelude.{◌≡◌, ◌+◌, ◌-◌, ◌^◌, ◌<◌, ◌≤◌, ◌++◌, length, drop, is_ok, if◌then◌else◌, vec_len, vec_capacity, IsOk, ◌↔◌};
 ghost use Rattle.codec.specs.Appends.{Appends};
 ghost use Rattle.codec.specs.Messages.{encode_msg};
@@ -9,8 +9,7 @@ use crate::message::{Message, RESPONSE_HEAD};
 use crate::put::{put_request, put_response, put_single, put_welcome};
 use codec::DoesNotFit;
 
-// A function that others can call asks nothing of its callers, so codec keeps its like for itself. `extend_from_slice` in place of the loop leaves
-// unproved that the capacity stays.
+// `extend_from_slice` leaves unproved that the capacity stays. Public functions have no `requires` here, so codec's own cannot be shared.
 fn append(v: &mut Vec<u8>, more: &[u8])
     requires { vec_len v.old + length more.now ≤ vec_capacity v.old }
     ensures { Appends v.old v.new (length more.now) more.now }
