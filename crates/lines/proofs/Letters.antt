@@ -3,7 +3,7 @@ use Rattle.std.proofs.Common.{◌≡◌, ℕ, ◌<◌, ◌≤◌, [], ◌∷◌,
 use Rattle.promise.specs.Bytes.{Bytes}
 use Rattle.lines.specs.CallLines.{verb_in}
 use Rattle.lines.specs.Events.{clock_line, from_line, last_word, sync_line, plain_line, Beat}
-use Rattle.lines.specs.declared.shape.Verb.TheVariants as v
+use Rattle.codec.specs.declared.call.Kind.TheVariants as v
 
 three : (w : Bytes) (a b c : ℕ) → 3 ≤ length w → length w < 4 → get_or w 0 0 ≡ a → get_or w 1 0 ≡ b → get_or w 2 0 ≡ c → w ≡ a ∷ b ∷ c ∷ []
 three [] a b c l h p q r = absurd (omega arith)
@@ -44,7 +44,7 @@ six (x0 ∷ x1 ∷ x2 ∷ x3 ∷ x4 ∷ x5 ∷ []) a b c d e f l h p q r s t u =
 pub put_in : (w : Bytes) → 3 ≤ length w → length w < 4 → get_or w 0 0 ≡ 112 → get_or w 1 0 ≡ 117 → get_or w 2 0 ≡ 116 → Some v.Put ≡ verb_in w
 put_in w l h p q r = sym (ap verb_in (three w 112 117 116 l h p q r))
 
-pub let_in : (w : Bytes) → 3 ≤ length w → length w < 4 → get_or w 0 0 ≡ 108 → get_or w 1 0 ≡ 101 → get_or w 2 0 ≡ 116 → Some v.Let ≡ verb_in w
+pub let_in : (w : Bytes) → 3 ≤ length w → length w < 4 → get_or w 0 0 ≡ 108 → get_or w 1 0 ≡ 101 → get_or w 2 0 ≡ 116 → Some v.LetGo ≡ verb_in w
 let_in w l h p q r = sym (ap verb_in (three w 108 101 116 l h p q r))
 
 pub read_in : (w : Bytes) → 4 ≤ length w → length w < 5 → get_or w 0 0 ≡ 114 → get_or w 1 0 ≡ 101 → get_or w 2 0 ≡ 97 → get_or w 3 0 ≡ 100 → Some v.Read ≡ verb_in w

@@ -17,8 +17,8 @@ use Rattle.lines.specs.Events.{Event, Clock, From, Beat, Light, Sync, Asked, mos
 use Rattle.lines.specs.EventTexts.{call_text, event_text, HasText, WrittenBack}
 use Rattle.lines.specs.declared.error.LineError.{LineError}
 use Rattle.lines.specs.declared.error.LineError.TheVariants.{MissingWord, BadNumber, BadHex, BadWord}
-use Rattle.lines.specs.declared.shape.Verb.{Verb}
-use Rattle.lines.specs.declared.shape.Verb.TheVariants as v
+use Rattle.codec.specs.declared.call.Kind.{Kind}
+use Rattle.codec.specs.declared.call.Kind.TheVariants as v
 use Rattle.lines.proofs.Inverse.{some_bind, ok_then, ok_or_lem, last_is}
 use Rattle.lines.proofs.CallLaws.{read_args, put_args, patch_args, remove_args, rename_args, names_args, take_args, let_args}
 
@@ -90,7 +90,7 @@ house_written_back line e has f =
 
 -- CALLS
 
-verb_text : Verb → Bytes
+verb_text : Kind → Bytes
 verb_text v.Read = codes "read"
 verb_text v.Put = codes "put"
 verb_text v.Patch = codes "patch"
@@ -98,23 +98,23 @@ verb_text v.Remove = codes "remove"
 verb_text v.Rename = codes "rename"
 verb_text v.Names = codes "names"
 verb_text v.Take = codes "take"
-verb_text v.Let = codes "let"
+verb_text v.LetGo = codes "let"
 
-verb_line : (w : Bytes) (x : Verb) → verb_in w ≡ Some x → verb_text x ≡ w
+verb_line : (w : Bytes) (x : Kind) → verb_in w ≡ Some x → verb_text x ≡ w
 unfolding verb_text
 verb_line w x e =
     step (codes "read") v.Read _ refl (λ a. step (codes "put") v.Put _ refl (λ b. step (codes "patch") v.Patch _ refl (λ c. step (codes "remove") v.Remove _ refl (λ d.
-    step (codes "rename") v.Rename _ refl (λ f. step (codes "names") v.Names _ refl (λ g. step (codes "take") v.Take _ refl (λ h. step (codes "let") v.Let _ refl
+    step (codes "rename") v.Rename _ refl (λ f. step (codes "names") v.Names _ refl (λ g. step (codes "take") v.Take _ refl (λ h. step (codes "let") v.LetGo _ refl
     (λ k. let z : ◌≡◌ {A = ℕ} 0 1 = cc in absurd (omega arith)) h) g) f) d) c) b) a) e
   where
-    step : (word : Bytes) (y : Verb) (rest : Option Verb) → verb_text y ≡ word → (rest ≡ Some x → verb_text x ≡ w) → cond (bytes_eq w word) (Some y) rest ≡ Some x → verb_text x ≡ w
+    step : (word : Bytes) (y : Kind) (rest : Option Kind) → verb_text y ≡ word → (rest ≡ Some x → verb_text x ≡ w) → cond (bytes_eq w word) (Some y) rest ≡ Some x → verb_text x ≡ w
     step word y rest t more f = go (bytes_eq w word) refl f
       where
         go : (s : Bool) → bytes_eq w word ≡ s → cond s (Some y) rest ≡ Some x → verb_text x ≡ w
         go true q g = let k : y ≡ x = cc in sym (ap verb_text k) ∙ (t ∙ sym ((bytes_eq-Decides w word).0 q))
         go false q g = more g
 
-call_line_lem : (x : Verb) (b : Bytes) (c : t.Call) → call_line x b ≡ Some c → call_text c ≡ spaced (verb_text x) ++ b
+call_line_lem : (x : Kind) (b : Bytes) (c : t.Call) → call_line x b ≡ Some c → call_text c ≡ spaced (verb_text x) ++ b
 unfolding verb_text
 call_line_lem v.Read b c e = read_args b c e
 call_line_lem v.Put b c e = put_args b c e
@@ -123,26 +123,26 @@ call_line_lem v.Remove b c e = remove_args b c e
 call_line_lem v.Rename b c e = rename_args b c e
 call_line_lem v.Names b c e = names_args b c e
 call_line_lem v.Take b c e = take_args b c e
-call_line_lem v.Let b c e = let_args b c e
+call_line_lem v.LetGo b c e = let_args b c e
 
-asked_line : (w b : Bytes) (x : ℕ × (Verb × Bytes)) (c : t.Call) → asked_in w b ≡ Some x → call_line x.1.0 x.1.1 ≡ Some c → decimal_text x.0 ++ call_text c ≡ w ++ b
+asked_line : (w b : Bytes) (x : ℕ × (Kind × Bytes)) (c : t.Call) → asked_in w b ≡ Some x → call_line x.1.0 x.1.1 ≡ Some c → decimal_text x.0 ++ call_text c ≡ w ++ b
 asked_line w b x c e f =
     let k = some_bind (decimal_in most64 w) _ x e in
     let y = some_bind (word_in b) _ x k.2 in
     let u = some_bind (verb_in y.0.0) _ x y.2 in
     go k.0 y.0 u.0 k.1 y.1 u.1 u.2
   where
-    go : (k : ℕ) (y : Bytes × Bytes) (u : Verb) → decimal_in most64 w ≡ Some k → word_in b ≡ Some y → verb_in y.0 ≡ Some u →
-        ◌≡◌ {A = Option (ℕ × (Verb × Bytes))} (Some (k, (u, y.1))) (Some x) → decimal_text x.0 ++ call_text c ≡ w ++ b
+    go : (k : ℕ) (y : Bytes × Bytes) (u : Kind) → decimal_in most64 w ≡ Some k → word_in b ≡ Some y → verb_in y.0 ≡ Some u →
+        ◌≡◌ {A = Option (ℕ × (Kind × Bytes))} (Some (k, (u, y.1))) (Some x) → decimal_text x.0 ++ call_text c ≡ w ++ b
     go k y u p q r s =
-        let z : ◌≡◌ {A = ℕ × (Verb × Bytes)} (k, (u, y.1)) x = cc in
-        let z0 : k ≡ x.0 = ap (λ (m : ℕ × (Verb × Bytes)). m.0) z in
-        let z1 : u ≡ x.1.0 = ap (λ (m : ℕ × (Verb × Bytes)). m.1.0) z in
-        let z2 : y.1 ≡ x.1.1 = ap (λ (m : ℕ × (Verb × Bytes)). m.1.1) z in
+        let z : ◌≡◌ {A = ℕ × (Kind × Bytes)} (k, (u, y.1)) x = cc in
+        let z0 : k ≡ x.0 = ap (λ (m : ℕ × (Kind × Bytes)). m.0) z in
+        let z1 : u ≡ x.1.0 = ap (λ (m : ℕ × (Kind × Bytes)). m.1.0) z in
+        let z2 : y.1 ≡ x.1.1 = ap (λ (m : ℕ × (Kind × Bytes)). m.1.1) z in
         let n : decimal_text x.0 ≡ w = sym (ap decimal_text z0) ∙ decimal_line most64 w k (omega arith) p in
         let a : call_text c ≡ spaced (verb_text x.1.0) ++ x.1.1 = call_line_lem x.1.0 x.1.1 c f in
         let h : spaced (verb_text x.1.0) ++ x.1.1 ≡ b =
-        sym (ap (λ (m : Verb). spaced (verb_text m) ++ x.1.1) z1) ∙ (sym (ap (λ (m : Bytes). spaced (verb_text u) ++ m) z2)
+        sym (ap (λ (m : Kind). spaced (verb_text m) ++ x.1.1) z1) ∙ (sym (ap (λ (m : Bytes). spaced (verb_text u) ++ m) z2)
         ∙ (ap (λ (m : Bytes). spaced m ++ y.1) (verb_line y.0 u r) ∙ word_line b y.0 y.1 q)) in
         ap (λ (m : Bytes). m ++ call_text c) n ∙ ap (λ (m : Bytes). w ++ m) (a ∙ h)
 
@@ -152,11 +152,11 @@ desk_written_back line e has f =
     let w = ok_then (ok_or (first_in line) MissingWord) (λ w. asked_or (asked_in w.0 w.1) (plain_line w.0 w.1)) e f in
     go w.0 (asked_in w.0.0 w.0.1) refl w.2 ∙ first_line line w.0.0 w.0.1 (ok_or_lem (first_in line) MissingWord w.0 w.1)
   where
-    call : (w : Bytes × Bytes) (x : ℕ × (Verb × Bytes)) → asked_in w.0 w.1 ≡ Some x → (o : Option t.Call) → call_line x.1.0 x.1.1 ≡ o →
+    call : (w : Bytes × Bytes) (x : ℕ × (Kind × Bytes)) → asked_in w.0 w.1 ≡ Some x → (o : Option t.Call) → call_line x.1.0 x.1.1 ≡ o →
         ◌≡◌ {A = Result Event LineError} (Ok (Asked x.0 o)) (Ok e) → event_text e ≡ w.0 ++ w.1
     call w x q None g k = let z : Asked x.0 None ≡ e = cc in absurd (subst HasText (sym z) has)
     call w x q (Some c) g k = let z : Asked x.0 (Some c) ≡ e = cc in sym (ap event_text z) ∙ asked_line w.0 w.1 x c q g
 
-    go : (w : Bytes × Bytes) (o : Option (ℕ × (Verb × Bytes))) → asked_in w.0 w.1 ≡ o → asked_or o (plain_line w.0 w.1) ≡ Ok e → event_text e ≡ w.0 ++ w.1
+    go : (w : Bytes × Bytes) (o : Option (ℕ × (Kind × Bytes))) → asked_in w.0 w.1 ≡ o → asked_or o (plain_line w.0 w.1) ≡ Ok e → event_text e ≡ w.0 ++ w.1
     go w None q g = plain_line_lem w.0 w.1 e g
     go w (Some x) q g = call w x q (call_line x.1.0 x.1.1) refl g

@@ -8,8 +8,8 @@ use Rattle.codec.specs.Calls.{expect_of}
 use Rattle.text.specs.Decimals.{number_word}
 use Rattle.text.specs.Words.{word_in}
 use Rattle.lines.specs.Fields.{name_word, hex_word, expect_word}
-use Rattle.lines.specs.declared.shape.Verb.{Verb}
-use Rattle.lines.specs.declared.shape.Verb.TheVariants as v
+use Rattle.codec.specs.declared.call.Kind.{Kind}
+use Rattle.codec.specs.declared.call.Kind.TheVariants as v
 use Rattle.lines.specs.declared.shape.Form.{Form}
 use Rattle.lines.specs.declared.shape.Form.TheVariants as f
 use Rattle.lines.specs.declared.shape.Scratch.{Scratch}
@@ -21,12 +21,12 @@ abbrev pub most16 : ℕ
 most16 = 65535
 
 -- the words that make a line a call
-abbrev pub verb_in : Bytes → Option Verb
+abbrev pub verb_in : Bytes → Option Kind
 verb_in w =
     cond (bytes_eq w (codes "read")) (Some v.Read) (cond (bytes_eq w (codes "put")) (Some v.Put)
     (cond (bytes_eq w (codes "patch")) (Some v.Patch) (cond (bytes_eq w (codes "remove")) (Some v.Remove)
     (cond (bytes_eq w (codes "rename")) (Some v.Rename) (cond (bytes_eq w (codes "names")) (Some v.Names)
-    (cond (bytes_eq w (codes "take")) (Some v.Take) (cond (bytes_eq w (codes "let")) (Some v.Let) None)))))))
+    (cond (bytes_eq w (codes "take")) (Some v.Take) (cond (bytes_eq w (codes "let")) (Some v.LetGo) None)))))))
 
 abbrev pub read_line : Bytes → Option t.Call
 read_line b =
@@ -59,7 +59,7 @@ take_line b =
 abbrev pub let_line : Bytes → Option t.Call
 let_line b = bind (word_in b) (λ w. cond (bytes_eq w.0 (codes "go")) (bind (name_word w.1) (λ n. ended (t.LetGo n.0) n.1)) None)
 
-abbrev pub call_line : Verb → Bytes → Option t.Call
+abbrev pub call_line : Kind → Bytes → Option t.Call
 call_line v.Read b = read_line b
 call_line v.Put b = put_line b
 call_line v.Patch b = patch_line b
@@ -67,7 +67,7 @@ call_line v.Remove b = remove_line b
 call_line v.Rename b = rename_line b
 call_line v.Names b = names_line b
 call_line v.Take b = take_line b
-call_line v.Let b = let_line b
+call_line v.LetGo b = let_line b
 
 -- VIEWS
 

@@ -13,7 +13,7 @@ use Rattle.text.specs.Words.{both, first_in, word_in}
 use Rattle.lines.specs.CallLines.{verb_in, call_line, formed}
 use Rattle.lines.specs.declared.error.LineError.{LineError}
 use Rattle.lines.specs.declared.error.LineError.TheVariants.{UnknownWord, MissingWord, ExtraWord, BadNumber, BadHex, BadWord}
-use Rattle.lines.specs.declared.shape.Verb.{Verb}
+use Rattle.codec.specs.declared.call.Kind.{Kind}
 use Rattle.lines.specs.declared.shape.Shape.{Shape}
 use Rattle.lines.specs.declared.shape.Shape.TheVariants as s
 use Rattle.lines.specs.declared.shape.Scratch.{Scratch}
@@ -77,10 +77,10 @@ abbrev pub house_line : Bytes → Result Event LineError
 house_line line = and_then (ok_or (first_in line) MissingWord) (λ w. cond (bytes_eq w.0 (codes "light")) (last_word Light w.1) (plain_line w.0 w.1))
 
 -- a number and a call's word: a call, whatever follows
-abbrev pub asked_in : (word rest : Bytes) → Option (ℕ × (Verb × Bytes))
+abbrev pub asked_in : (word rest : Bytes) → Option (ℕ × (Kind × Bytes))
 asked_in w b = bind (decimal_in most64 w) (λ k. bind (word_in b) (λ x. bind (verb_in x.0) (λ v. Some (k, (v, x.1)))))
 
-abbrev pub asked_or : Option (ℕ × (Verb × Bytes)) → Result Event LineError → Result Event LineError
+abbrev pub asked_or : Option (ℕ × (Kind × Bytes)) → Result Event LineError → Result Event LineError
 asked_or None r = r
 asked_or (Some x) r = Ok (Asked x.0 (call_line x.1.0 x.1.1))
 
@@ -89,7 +89,7 @@ desk_line line = and_then (ok_or (first_in line) MissingWord) (λ w. asked_or (a
 
 -- VIEWS
 
-abbrev pub asked_view : ℕ × Verb × Bor Bytes → ℕ × (Verb × Bytes)
+abbrev pub asked_view : ℕ × Kind × Bor Bytes → ℕ × (Kind × Bytes)
 asked_view x = (x.0, (x.1, x.2.now))
 
 abbrev pub begun : Result (Bor Bytes × Bor Bytes) LineError → Result (Bytes × Bytes) LineError

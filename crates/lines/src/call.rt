@@ -5,7 +5,8 @@ ghost use Rattle.lines.specs.CallLines.{verb_in, read_line, put_line, patch_line
 ghost use Rattle.lines.specs.Room.{room, Roomy};
 
 use crate::field::{expect_word, hex_word, name_word};
-use crate::shape::{Form, Scratch, Verb};
+use crate::shape::{Form, Scratch};
+use codec::call::Kind;
 use text::decimal::next_number;
 use text::word::next_word;
 
@@ -14,18 +15,18 @@ const MOST_32: u64 = u32::MAX as u64;
 const MOST_16: u64 = u16::MAX as u64;
 
 #[tactic(auto, using(crate::proofs::Letters::read_in, crate::proofs::Letters::put_in, crate::proofs::Letters::patch_in, crate::proofs::Letters::remove_in, crate::proofs::Letters::rename_in, crate::proofs::Letters::names_in, crate::proofs::Letters::take_in, crate::proofs::Letters::let_in))]
-pub(crate) fn verb_of(w: &[u8]) -> Option<Verb>
+pub(crate) fn verb_of(w: &[u8]) -> Option<Kind>
     ensures { result ≡ verb_in w.now }
 {
     match w {
-        b"read" => Some(Verb::Read),
-        b"put" => Some(Verb::Put),
-        b"patch" => Some(Verb::Patch),
-        b"remove" => Some(Verb::Remove),
-        b"rename" => Some(Verb::Rename),
-        b"names" => Some(Verb::Names),
-        b"take" => Some(Verb::Take),
-        b"let" => Some(Verb::Let),
+        b"read" => Some(Kind::Read),
+        b"put" => Some(Kind::Put),
+        b"patch" => Some(Kind::Patch),
+        b"remove" => Some(Kind::Remove),
+        b"rename" => Some(Kind::Rename),
+        b"names" => Some(Kind::Names),
+        b"take" => Some(Kind::Take),
+        b"let" => Some(Kind::LetGo),
         _ => None,
     }
 }
@@ -126,19 +127,19 @@ fn fill_let(s: &mut Scratch, rest: &[u8]) -> Option<Form>
 }
 
 // The form of a call; none if the line cannot be put into bytes.
-pub(crate) fn fill_call(s: &mut Scratch, verb: Verb, rest: &[u8]) -> Option<Form>
+pub(crate) fn fill_call(s: &mut Scratch, verb: Kind, rest: &[u8]) -> Option<Form>
     requires { Roomy s.old (length rest.now) }
     ensures value { option_map (formed s.new) result ≡ call_line verb rest.now }
     ensures room { room s.new ≡ room s.old }
 {
     match verb {
-        Verb::Read => fill_read(s, rest),
-        Verb::Put => fill_put(s, rest),
-        Verb::Patch => fill_patch(s, rest),
-        Verb::Remove => fill_remove(s, rest),
-        Verb::Rename => fill_rename(s, rest),
-        Verb::Names => fill_names(s, rest),
-        Verb::Take => fill_take(s, rest),
-        Verb::Let => fill_let(s, rest),
+        Kind::Read => fill_read(s, rest),
+        Kind::Put => fill_put(s, rest),
+        Kind::Patch => fill_patch(s, rest),
+        Kind::Remove => fill_remove(s, rest),
+        Kind::Rename => fill_rename(s, rest),
+        Kind::Names => fill_names(s, rest),
+        Kind::Take => fill_take(s, rest),
+        Kind::LetGo => fill_let(s, rest),
     }
 }

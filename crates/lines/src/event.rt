@@ -10,7 +10,8 @@ use crate::call::{fill_call, verb_of};
 use crate::error::LineError;
 use crate::field::hex_into;
 use crate::scratch::has_room;
-use crate::shape::{Scratch, Shape, Verb};
+use crate::shape::{Scratch, Shape};
+use codec::call::Kind;
 use ids::{CallNumber, Clock};
 use text::decimal::read_decimal;
 use text::word::{first_word, next_word};
@@ -96,7 +97,7 @@ fn read_plain(s: &mut Scratch, w: &[u8], rest: &[u8]) -> Result<Shape, LineError
 }
 
 // A number and a call's word make a call, whatever follows.
-fn asked<'a>(w: &[u8], rest: &'a [u8]) -> Option<(u64, Verb, &'a [u8])>
+fn asked<'a>(w: &[u8], rest: &'a [u8]) -> Option<(u64, Kind, &'a [u8])>
     ensures value { option_map asked_view result ≡ asked_in w.now rest.now }
     ensures shorter { IfSome result (λ x. length x.2.now ≤ length rest.now) }
 {

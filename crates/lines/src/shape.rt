@@ -4,19 +4,6 @@ ghost use Rattle.std.specs.Prelude.{◌≡◌, vec_capacity};
 use codec::call::Expect;
 use ids::{CallNumber, Clock};
 
-// The verbs that make a line a call.
-#[derive(Clone, Copy)]
-pub(crate) enum Verb {
-    Read,
-    Put,
-    Patch,
-    Remove,
-    Rename,
-    Names,
-    Take,
-    Let,
-}
-
 // A call without its names and bytes.
 #[derive(Clone, Copy)]
 pub enum Form {
