@@ -14,10 +14,7 @@ const WORDS: usize = 64;
 pub fn write_to(out: &mut Vec<u8>, to: DeskId, bytes: &[u8]) -> Result<(), NoRoom>
     ensures { Prints out.old out.new result (2 * length bytes.now + 64) (to_line to.0 bytes.now) }
 {
-    let room = out.capacity() - out.len();
-    if room < WORDS || (room - WORDS) / 2 < bytes.len() {
-        return Err(NoRoom);
-    }
+    need_room(out, bytes.len().saturating_mul(2).saturating_add(WORDS))?;
     out.extend_from_slice(b"to ").unwrap();
     write_decimal(out, u64::from(to.0)).unwrap();
     out.push_reserved(b' ');

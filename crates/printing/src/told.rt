@@ -11,7 +11,7 @@ use ids::{CallNumber, Edition};
 use text::decimal::write_decimal;
 use text::hex::write_hex;
 use text::name::write_name;
-use text::room::NoRoom;
+use text::room::{NoRoom, need_room};
 
 // Room for the words and numbers of any answer.
 const WORDS: usize = 128;
@@ -106,10 +106,10 @@ fn carried_len(answer: Answer<'_>) -> usize
 pub fn write_answer(out: &mut Vec<u8>, number: CallNumber, answer: Answer<'_>) -> Result<(), NoRoom>
     ensures { Prints out.old out.new result (3 * carried answer.entry + 128) (answer_line number.0 (answer_of answer.entry)) }
 {
-    let room = out.capacity() - out.len();
-    if room < WORDS || (room - WORDS) / 3 < carried_len(answer) {
-        return Err(NoRoom);
-    }
+    need_room(
+        out,
+        carried_len(answer).saturating_mul(3).saturating_add(WORDS),
+    )?;
     write_decimal(out, number.0).unwrap();
     push_reply(out, answer);
     out.push_reserved(b'\n');
