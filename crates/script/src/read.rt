@@ -18,6 +18,14 @@ fn count<'a>(rest: &'a [u8], most: u64) -> Option<(u64, &'a [u8])>
     (n != 0).then_some((n, rest))
 }
 
+// The number of a desk, or of desks.
+fn desk<'a>(rest: &'a [u8]) -> Option<(u8, &'a [u8])>
+    ensures { option_map number_and_rest result ≡ count_in 8 rest.now }
+{
+    let (n, rest) = count(rest, 8)?;
+    Some((n as u8, rest))
+}
+
 // The house's number or a desk's.
 fn party<'a>(rest: &'a [u8]) -> Option<(u8, &'a [u8])>
     ensures { option_map number_and_rest result ≡ number_word 8 rest.now }
@@ -33,29 +41,12 @@ fn ended<T: Drop>(value: T, rest: &[u8]) -> Option<T>
     rest.is_empty().then_some(value)
 }
 
-// A number with nothing behind it.
-fn last_number(rest: &[u8], most: u64) -> Option<u64>
-    ensures value { result ≡ bind (number_word most rest.now) (λ n. ended n.0 n.1) }
-    ensures bound { IfSome result (λ n. n ≤ most) }
+// A number that was read, if nothing follows it.
+fn last<T: Drop>(read: Option<(T, &[u8])>) -> Option<T>
+    ensures { result ≡ bind read.entry (λ n. ended n.0 n.1.now) }
 {
-    let (n, rest) = next_number(rest, most)?;
+    let (n, rest) = read?;
     ended(n, rest)
-}
-
-// The house's number or a desk's, with nothing behind it.
-fn last_party(rest: &[u8]) -> Option<u8>
-    ensures { result ≡ bind (number_word 8 rest.now) (λ n. ended n.0 n.1) }
-{
-    let (who, rest) = party(rest)?;
-    ended(who, rest)
-}
-
-// The number of a desk, or of desks, with nothing behind it.
-fn last_desk(rest: &[u8]) -> Option<u8>
-    ensures { result ≡ bind (count_in 8 rest.now) (λ n. ended n.0 n.1) }
-{
-    let (n, rest) = count(rest, 8)?;
-    ended(n as u8, rest)
 }
 
 #[tactic(auto, unfolding(crate::specs::Steps::script_in))]
@@ -161,9 +152,9 @@ fn numbers<'a>(word: &[u8], rest: &'a [u8]) -> Option<Step<'a>>
     ensures { option_map step_of result ≡ numbers_in word.now rest.now }
 {
     match word {
-        b"desks" => last_desk(rest).map(|count| Step::Desks { count }),
+        b"desks" => last(desk(rest)).map(|count| Step::Desks { count }),
         b"rate" => rate(rest),
-        b"time" => last_number(rest, u64::MAX).map(|ms| Step::Time { ms }),
+        b"time" => last(next_number(rest, u64::MAX)).map(|ms| Step::Time { ms }),
         _ => call(word, rest),
     }
 }
@@ -198,9 +189,9 @@ fn happens<'a>(word: &[u8], rest: &'a [u8]) -> Option<Step<'a>>
     ensures { option_map step_of result ≡ happens_in word.now rest.now }
 {
     match word {
-        b"beat" => last_party(rest).map(|who| Step::Beat { who }),
-        b"fall" => last_desk(rest).map(|desk| Step::Fall { desk }),
-        b"come" => last_desk(rest).map(|desk| Step::Come { desk }),
+        b"beat" => last(party(rest)).map(|who| Step::Beat { who }),
+        b"fall" => last(desk(rest)).map(|desk| Step::Fall { desk }),
+        b"come" => last(desk(rest)).map(|desk| Step::Come { desk }),
         _ => darkness(word, rest),
     }
 }
