@@ -34,19 +34,12 @@ fn party<'a>(rest: &'a [u8]) -> Option<(u8, &'a [u8])>
     Some((n as u8, rest))
 }
 
-// A value, if nothing follows it.
-fn ended<T: Drop>(value: T, rest: &[u8]) -> Option<T>
-    ensures { result ≡ ended value rest.now }
-{
-    rest.is_empty().then_some(value)
-}
-
 // A number that was read, if nothing follows it.
 fn last<T: Drop>(read: Option<(T, &[u8])>) -> Option<T>
     ensures { result ≡ bind read.entry (λ n. ended n.0 n.1.now) }
 {
     let (n, rest) = read?;
-    ended(n, rest)
+    rest.is_empty().then_some(n)
 }
 
 #[tactic(auto, unfolding(crate::specs::Steps::script_in))]
@@ -54,7 +47,7 @@ fn script<'a>(rest: &'a [u8]) -> Option<Step<'a>>
     ensures { option_map step_of result ≡ script_in rest.now }
 {
     let (name, rest) = next_word(rest)?;
-    ended(Step::Script { name }, rest)
+    rest.is_empty().then_some(Step::Script { name })
 }
 
 #[tactic(auto, unfolding(crate::specs::Steps::memory_in))]
@@ -63,7 +56,7 @@ fn memory<'a>(rest: &'a [u8]) -> Option<Step<'a>>
 {
     let (house, rest) = next_number(rest, u64::MAX)?;
     let (desk, rest) = next_number(rest, u64::MAX)?;
-    ended(Step::Memory { house, desk }, rest)
+    rest.is_empty().then_some(Step::Memory { house, desk })
 }
 
 fn drift(word: &[u8]) -> Option<Drift>
@@ -85,7 +78,7 @@ fn rate<'a>(rest: &'a [u8]) -> Option<Step<'a>>
     let (who, rest) = party(rest)?;
     let (word, rest) = next_word(rest)?;
     let drift = drift(word)?;
-    ended(Step::Rate { who, drift }, rest)
+    rest.is_empty().then_some(Step::Rate { who, drift })
 }
 
 fn nth(sender: u8, receiver: u8, rest: &[u8]) -> Option<Which>
@@ -95,15 +88,11 @@ fn nth(sender: u8, receiver: u8, rest: &[u8]) -> Option<Which>
         return Some(Which::OldestBetween { sender, receiver });
     }
     let (nth, rest) = count(rest, u64::from(u32::MAX))?;
-    let nth = nth as u32;
-    ended(
-        Which::NthBetween {
-            sender,
-            receiver,
-            nth,
-        },
-        rest,
-    )
+    rest.is_empty().then_some(Which::NthBetween {
+        sender,
+        receiver,
+        nth: nth as u32,
+    })
 }
 
 fn which(rest: &[u8]) -> Option<Which>
@@ -177,8 +166,8 @@ fn darkness<'a>(word: &[u8], rest: &'a [u8]) -> Option<Step<'a>>
     ensures { option_map step_of result ≡ darkness_in word.now rest.now }
 {
     match word {
-        b"dark" => ended(Step::Dark, rest),
-        b"light" => ended(Step::Light, rest),
+        b"dark" => rest.is_empty().then_some(Step::Dark),
+        b"light" => rest.is_empty().then_some(Step::Light),
         _ => begins(word, rest),
     }
 }
