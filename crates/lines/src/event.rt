@@ -73,11 +73,9 @@ fn read_sync(s: &mut Scratch, rest: &[u8]) -> Result<Shape, LineError>
     if !all_seen(w) {
         return Err(LineError::BadWord);
     }
-    if !rest.is_empty() {
-        return Err(LineError::ExtraWord);
-    }
+    let shape = last_word(Shape::Sync, rest)?;
     hold(&mut s.bytes, w);
-    Ok(Shape::Sync)
+    Ok(shape)
 }
 
 // What house and desks both read, by the first word.

@@ -32,6 +32,8 @@ pub enum Shape {
 }
 
 // Where names and bytes of a line are written: two names, each with room for the longest, and bytes.
+// The room for bytes differs from one to the next, so that no invariant can name it: that it stays is said by each function that is lent the
+// buffers, as what a `&mut` leaves is said where it is taken.
 #[derive(Drop)]
 pub struct Scratch {
     pub(crate) name: Vec<u8>,
