@@ -1,5 +1,6 @@
 -- What a desk says and knows after a call.
-use Rattle.std.proofs.Common.{◌≡◌, ℕ, Bool, true, false, not, ◌||◌, eqb, List, [], ◌∷◌, set, sym, refl, ap, ◌∙◌, ap₂}
+use Rattle.std.proofs.Common.{◌≡◌, ℕ, Bool, true, false, not, ◌||◌, eqb, List, [], ◌∷◌, ◌==◌, get_or, set, sym, refl, ap, ◌∙◌, ap₂}
+use Rattle.std.specs.Bool.{then_some}
 use Rattle.promise.specs.Bytes.{Bytes}
 use Rattle.promise.specs.Layout.{busy}
 use Rattle.promise.specs.Desks as p
@@ -7,7 +8,12 @@ use Rattle.codec.specs.Messages as c
 use Rattle.asking.specs.House.{next64}
 use Rattle.asking.specs.Desk as m
 use Rattle.desk_side.specs.Calls.{grabs}
-use Rattle.desk_side.specs.Said.{says, tells}
+use Rattle.desk_side.specs.declared.slot.Place.{Place}
+use Rattle.desk_side.specs.declared.say.Say.TheVariants.{Hello}
+use Rattle.desk_side.specs.declared.state.Asking.{Asking}
+use Rattle.desk_side.specs.Slots.{call_in}
+use Rattle.desk_side.specs.View.{desk_of}
+use Rattle.desk_side.specs.Said.{says, tells, said_if, says_first}
 
 -- THE FIRST MESSAGE
 
@@ -20,15 +26,14 @@ pub first_request : (t j q : ℕ) (x : Bytes) (alone : Bool) (d : m.Desk) → eq
 unfolding m.first_said
 first_request t j q x alone d e = first_by t j q x alone false alone d e refl
 
-pub first_hello : (t j q : ℕ) (x : Bytes) (alone : Bool) (d : m.Desk) → eqb d.session 0 ≡ true → alone ≡ true →
-    says t (c.Hello d.nonce) d ≡ m.speaks t (m.first_said d j q x (eqb d.session 0) alone) d.slots d
-unfolding m.first_said
-first_hello t j q x alone d e w = first_by t j q x alone true true d e w
-
-pub first_none : (t j q : ℕ) (x : Bytes) (alone : Bool) (d : m.Desk) → eqb d.session 0 ≡ true → alone ≡ false →
-    m.does_nothing d ≡ m.speaks t (m.first_said d j q x (eqb d.session 0) alone) d.slots d
+-- without a session a Hello, if nothing else waits
+pub first_alone : (t : ℕ) (x : Place) (alone : Bool) (b : Bytes) (ps : List Bytes) (a : Asking) → ((desk_of ps a).session == 0) ≡ true → said_if (then_some alone Hello) t b ps a ≡ says_first t x alone ps a
 unfolding m.first_said m.spoke_by
-first_none t j q x alone d e w = first_by t j q x alone true false d e w
+first_alone t x alone b ps a e = by_alone alone ∙ first_by t x.slot.0 x.seq.0 _ alone true alone (desk_of ps a) e refl
+  where
+    by_alone : (v : Bool) → said_if (then_some v Hello) t b ps a ≡ m.speaks t (m.first_said (desk_of ps a) x.slot.0 x.seq.0 (call_in (get_or ps x.slot.0 [])) true v) (desk_of ps a).slots (desk_of ps a)
+    by_alone true = refl
+    by_alone false = refl
 
 -- A CALL IN ITS SLOT
 

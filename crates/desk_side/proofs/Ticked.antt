@@ -1,17 +1,20 @@
 -- What a desk says after a beat of its clock.
-use Rattle.std.proofs.Common.{◌≡◌, ℕ, Bool, true, false, map, sym, ap, ◌∙◌, ap₂}
+use Rattle.std.proofs.Common.{◌≡◌, ℕ, Bool, true, false, List, map, refl, sym, ap, ◌∙◌, ap₂}
+use Rattle.std.specs.Bool.{then_some}
+use Rattle.promise.specs.Bytes.{Bytes}
 use Rattle.codec.specs.Messages as c
 use Rattle.asking.specs.Desk as m
-use Rattle.desk_side.specs.Said.{says}
+use Rattle.desk_side.specs.declared.say.Say.TheVariants.{Alive}
+use Rattle.desk_side.specs.declared.state.Asking.{Asking}
+use Rattle.desk_side.specs.View.{desk_of}
+use Rattle.desk_side.specs.Said.{says, said_if}
 use Rattle.desk_side.specs.Steps.{started_over}
 
-pub alive_said : (t : ℕ) (v : Bool) (d : m.Desk) → v ≡ true → says t (c.Alive d.session) d ≡ m.alive_by t v d
-unfolding m.alive_by
-alive_said t v d e = sym (ap (λ u. m.alive_by t u d) e)
-
-pub alive_not : (t : ℕ) (v : Bool) (d : m.Desk) → v ≡ false → m.does_nothing d ≡ m.alive_by t v d
-unfolding m.alive_by
-alive_not t v d e = sym (ap (λ u. m.alive_by t u d) e)
+-- it says that it is there, if that is needed
+pub alive_if : (t : ℕ) (v : Bool) (b : Bytes) (ps : List Bytes) (a : Asking) → said_if (then_some v Alive) t b ps a ≡ m.alive_by t v (desk_of ps a)
+unfolding m.alive_by m.spoke_by
+alive_if t true b ps a = refl
+alive_if t false b ps a = refl
 
 pub tick_alive : (r t : ℕ) (d : m.Desk) → m.any_due r t d.slots ≡ false → m.alive t d ≡ m.desk_tick r t d
 unfolding m.tick_by

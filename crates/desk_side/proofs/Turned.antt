@@ -11,12 +11,12 @@ use Rattle.desk_side.specs.declared.say.Say.{Say}
 use Rattle.desk_side.specs.declared.state.Asking.{Asking}
 use Rattle.desk_side.specs.declared.desk.Desk.{Desk}
 use Rattle.desk_side.specs.Desks.{desk_in, outs_in, Did}
-use Rattle.desk_side.specs.Said.{said, heard}
+use Rattle.desk_side.specs.Said.{said_if, heard}
 use Rattle.desk_side.specs.Turns.{comes_of, came_of, decoded, turn_of, AsModel}
 
 -- at what came, by its name
-pub turned : (r : Say) (ps : List Bytes) (a : Asking) (z : Settings) (t : ℕ) (d : m.Desk) (ev known : Event) → ev ≡ known → said r t (came_of known) ps a ≡ turn_of z (comes_of known) t d → said r t (came_of ev) ps a ≡ turn_of z (comes_of ev) t d
-turned r ps a z t d ev known e h = ap (λ (x : Event). said r t (came_of x) ps a) e ∙ h ∙ sym (ap (λ (x : Event). turn_of z (comes_of x) t d) e)
+pub turned : (r : Option Say) (ps : List Bytes) (a : Asking) (z : Settings) (t : ℕ) (d : m.Desk) (ev known : Event) → ev ≡ known → said_if r t (came_of known) ps a ≡ turn_of z (comes_of known) t d → said_if r t (came_of ev) ps a ≡ turn_of z (comes_of ev) t d
+turned r ps a z t d ev known e h = ap (λ (x : Event). said_if r t (came_of x) ps a) e ∙ h ∙ sym (ap (λ (x : Event). turn_of z (comes_of x) t d) e)
 
 pub from_house : (i t : ℕ) (o : Option Msg) (d : m.Desk) → i ≡ 0 → heard t o d ≡ decoded i t o d
 unfolding m.desk_from_by

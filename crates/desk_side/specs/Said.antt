@@ -28,13 +28,22 @@ tells k x d = record { does = p.Tell k x ∷ []; desk = d }
 
 -- the turn that comes of what a desk decided to say, where these bytes came
 abbrev pub said : Say → (clock : ℕ) → (came : Bytes) → (requests : List Bytes) → Asking → m.DeskTurn
-said s.Nothing t b ps a = m.does_nothing (desk_of ps a)
 said s.Hello t b ps a = says t (Hello a.nonce.0) (desk_of ps a)
 said s.Alive t b ps a = says t (Alive (desk_of ps a).session) (desk_of ps a)
 said (s.Request x) t b ps a = says t (Request (desk_of ps a).session x.slot.0 x.seq.0 (call_in (slice_index_or ps x.slot.0 []))) (desk_of ps a)
 said (s.Requests w) t b ps a = asks_all w t (desk_of ps a)
 said (s.Tell k x n) t b ps a = tells k.0 (take n (drop x b)) (desk_of ps a)
 said (s.Busy k) t b ps a = tells k.0 busy (desk_of ps a)
+
+-- the same, if it decided to say anything
+abbrev pub said_if : Option Say → (clock : ℕ) → (came : Bytes) → (requests : List Bytes) → Asking → m.DeskTurn
+said_if None t b ps a = m.does_nothing (desk_of ps a)
+said_if (Some x) t b ps a = said x t b ps a
+
+-- the same, if it decided anything; what it knows then stands beside what it says
+abbrev pub decided : Option (Asking × Say) → (clock : ℕ) → (came : Bytes) → (requests : List Bytes) → Asking → m.DeskTurn
+decided None t b ps a = m.does_nothing (desk_of ps a)
+decided (Some r) t b ps a = said r.1 t b ps r.0
 
 -- what a call's first message leaves: a Request for the call in its place, a Hello, or nothing
 abbrev pub says_first : (clock : ℕ) → Place → (alone : Bool) → (requests : List Bytes) → Asking → m.DeskTurn

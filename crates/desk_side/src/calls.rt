@@ -39,19 +39,17 @@ fn next(last: Seq) -> Seq
 
 impl Asking {
     ghost use Rattle.asking.specs.Desk as m;
-    ghost use Rattle.desk_side.specs.Said.{said, says_first};
+    ghost use Rattle.desk_side.specs.Said.{said_if, says_first};
     ghost use Rattle.desk_side.specs.View.{desk_of, requests_in};
 
     // A Request for the call that was put into its place; without a session a Hello, if no other call waits.
-    fn first_said(self, place: Place, alone: bool) -> Say
-        ensures { (ps : List Bytes) (t : ℕ) (b : Bytes) → said result t b ps self ≡ says_first t place alone ps self }
+    fn first_said(self, place: Place, alone: bool) -> Option<Say>
+        ensures { (ps : List Bytes) (t : ℕ) (b : Bytes) → said_if result t b ps self ≡ says_first t place alone ps self }
     {
         if self.session.is_some() {
-            Say::Request { place }
-        } else if alone {
-            Say::Hello
+            Some(Say::Request { place })
         } else {
-            Say::Nothing
+            alone.then_some(Say::Hello)
         }
     }
 
@@ -62,8 +60,8 @@ impl Asking {
         number: CallNumber,
         call: &[u8],
         clock: Clock,
-    ) -> (Asking, Say)
-        ensures { (b : Bytes) → said result.1 clock.0 b (requests_in requests.new) result.0 ≡ m.takes_call grabs clock.0 number.0 (m.shortened call.now) place.slot.0 place.seq.0 (desk_of (requests_in requests.old) self) }
+    ) -> (Asking, Option<Say>)
+        ensures { (b : Bytes) → said_if result.1 clock.0 b (requests_in requests.new) result.0 ≡ m.takes_call grabs clock.0 number.0 (m.shortened call.now) place.slot.0 place.seq.0 (desk_of (requests_in requests.old) self) }
     {
         let alone = self.none_waits();
         requests.put(place, call);
@@ -89,11 +87,11 @@ impl Asking {
         number: CallNumber,
         call: &[u8],
         clock: Clock,
-    ) -> (Asking, Say)
-        ensures { (b : Bytes) → said result.1 clock.0 b (requests_in requests.new) result.0 ≡ m.desk_called grabs clock.0 number.0 call.now (desk_of (requests_in requests.old) self) }
+    ) -> (Asking, Option<Say>)
+        ensures { (b : Bytes) → said_if result.1 clock.0 b (requests_in requests.new) result.0 ≡ m.desk_called grabs clock.0 number.0 call.now (desk_of (requests_in requests.old) self) }
     {
         let Some(last) = self.free() else {
-            return (self, Say::Busy { number });
+            return (self, Some(Say::Busy { number }));
         };
         let place = Place {
             slot: last.slot,

@@ -68,7 +68,6 @@ impl Memory {
         ensures { (b : Bytes) → Did self.new b (said say clock.0 b (requests_in self.old.requests) self.old.asking) }
     {
         match say {
-            Say::Nothing => self.outputs.clear(),
             Say::Hello => {
                 let nonce = self.asking.nonce;
                 self.greet(Message::Hello { nonce }, Output::Hello, clock);

@@ -4,7 +4,6 @@ use ids::CallNumber;
 
 #[derive(Clone, Copy)]
 pub(crate) enum Say {
-    Nothing,
     Hello,
     Alive,
     // a Request for the call that waits in this place

@@ -9,31 +9,27 @@ use ids::Clock;
 
 impl Asking {
     ghost use Rattle.asking.specs.Desk as m;
-    ghost use Rattle.desk_side.specs.Said.{said};
+    ghost use Rattle.desk_side.specs.Said.{said_if};
     ghost use Rattle.desk_side.specs.View.{desk_of};
 
     // Says that it is there, if it may have something in hand and has said nothing for long.
-    fn keep_alive(self, clock: Clock) -> Say
-        ensures { (ps : List Bytes) (b : Bytes) → said result clock.0 b ps self ≡ m.alive clock.0 (desk_of ps self) }
+    fn keep_alive(self, clock: Clock) -> Option<Say>
+        ensures { (ps : List Bytes) (b : Bytes) → said_if result clock.0 b ps self ≡ m.alive clock.0 (desk_of ps self) }
     {
-        if self.is_silent(clock) {
-            Say::Alive
-        } else {
-            Say::Nothing
-        }
+        self.is_silent(clock).then_some(Say::Alive)
     }
 
     // Calls that are due are asked for anew. As long as the house has not answered, one Hello says that all of them wait.
-    pub(crate) fn tick(self, retry: u64, clock: Clock) -> (Asking, Say)
-        ensures { (ps : List Bytes) (b : Bytes) → said result.1 clock.0 b ps result.0 ≡ m.desk_tick retry clock.0 (desk_of ps self) }
+    pub(crate) fn tick(self, retry: u64, clock: Clock) -> (Asking, Option<Say>)
+        ensures { (ps : List Bytes) (b : Bytes) → said_if result.1 clock.0 b ps result.0 ≡ m.desk_tick retry clock.0 (desk_of ps self) }
     {
         let due = Which::Due { retry, clock };
         if !self.any_asked(due) {
             return (self, self.keep_alive(clock));
         }
         if self.answered {
-            return (self, Say::Requests { which: due });
+            return (self, Some(Say::Requests { which: due }));
         }
-        (self.start_over(clock), Say::Hello)
+        (self.start_over(clock), Some(Say::Hello))
     }
 }

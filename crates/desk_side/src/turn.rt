@@ -1,5 +1,7 @@
 // The turn of a desk: something comes, and it has done something and knows something else then.
-ghost use Rattle.std.specs.Prelude.{◌≡◌};
+ghost use Rattle.std.specs.Prelude.{◌≡◌, ℕ, List};
+ghost use Rattle.promise.specs.Bytes.{Bytes};
+ghost use Rattle.codec.specs.Messages.{decode_msg};
 
 use crate::desk::Desk;
 use crate::memory::Memory;
@@ -14,9 +16,19 @@ const HOUSE: DeskId = DeskId(0);
 
 impl Asking {
     ghost use Rattle.desk_side.specs.Desks.{settings};
-    ghost use Rattle.desk_side.specs.Said.{said};
-    ghost use Rattle.desk_side.specs.Turns.{comes_of, came_of, turn_of};
+    ghost use Rattle.desk_side.specs.Said.{said_if, decided};
+    ghost use Rattle.desk_side.specs.Turns.{comes_of, came_of, decoded, turn_of};
     ghost use Rattle.desk_side.specs.View.{desk_of, requests_in};
+
+    // At a message. What does not come from the house is noise.
+    fn hear_from(self, from: DeskId, bytes: &[u8]) -> Option<(Asking, Say)>
+        ensures { (ps : List Bytes) (t : ℕ) → decided result t bytes.now ps self ≡ decoded from.0 t (decode_msg bytes.now) (desk_of ps self) }
+    {
+        if from != HOUSE {
+            return None;
+        }
+        self.hear(bytes)
+    }
 
     // What it decides to say at what comes, and knows then. A call that is taken goes into `requests`.
     fn come(
@@ -25,17 +37,14 @@ impl Asking {
         event: Event<'_>,
         retry: u64,
         clock: Clock,
-    ) -> (Asking, Say)
-        ensures { said result.1 clock.0 (came_of event.entry) (requests_in requests.new) result.0 ≡ turn_of (settings retry) (comes_of event.entry) clock.0 (desk_of (requests_in requests.old) self) }
+    ) -> (Asking, Option<Say>)
+        ensures { said_if result.1 clock.0 (came_of event.entry) (requests_in requests.new) result.0 ≡ turn_of (settings retry) (comes_of event.entry) clock.0 (desk_of (requests_in requests.old) self) }
     {
         match event {
-            Event::Message { from, bytes } => {
-                if from == HOUSE {
-                    self.hear(bytes)
-                } else {
-                    (self, Say::Nothing)
-                }
-            }
+            Event::Message { from, bytes } => match self.hear_from(from, bytes) {
+                Some((asking, say)) => (asking, Some(say)),
+                None => (self, None),
+            },
             Event::Call { number, call } => self.call(requests, number, call, clock),
             Event::Tick => self.tick(retry, clock),
         }
@@ -51,7 +60,10 @@ impl Memory {
     {
         let (asking, say) = self.asking.come(&mut self.requests, event, retry, clock);
         self.asking = asking;
-        self.say(say, clock);
+        match say {
+            Some(say) => self.say(say, clock),
+            None => self.outputs.clear(),
+        }
     }
 }
 
