@@ -1,5 +1,5 @@
 // A place for a call.
-ghost use Rattle.std.specs.Prelude.{◌≡◌, ℕ, ◌<◌, ◌≤◌, length, slice_index_or, MatchOption};
+ghost use Rattle.std.specs.Prelude.{◌≡◌, ℕ, ◌<◌, ◌≤◌, length, slice_index_or, None, MatchOption, IsSomeAnd};
 ghost use Rattle.promise.specs.Bytes.{Bytes};
 ghost use Rattle.asking.specs.Desk as m;
 ghost use Rattle.desk_side.specs.Slots.{passes, is_idle, is_passing, passing, slot_of, blank};
@@ -89,11 +89,23 @@ impl Slot {
         self.is_asked(which).then_some(self.seq)
     }
 
+    // The call that waits, if one does, is what `change` makes of it.
+    fn with_waiting<F: FnOnce(Waiting) -> Waiting>(self, change: F) -> Slot
+        requires { F.IsAlwaysCallable change }
+        ensures seq { result.seq ≡ self.seq }
+        ensures waiting { MatchOption self.waiting (result.waiting ≡ None) (λ x. IsSomeAnd result.waiting (F.post change x)) }
+    {
+        Slot {
+            waiting: self.waiting.map(change),
+            ..self
+        }
+    }
+
     // It was sent now, if it was asked for.
     pub(crate) fn sent_now(self, which: Which, clock: Clock) -> Slot
         ensures { (part : Bytes) → slot_of result part ≡ m.sent_now (passes which) clock.0 (slot_of self part) }
     {
-        let again = |waiting: Waiting| {
+        self.with_waiting(|waiting| {
             if which.takes(waiting) {
                 Waiting {
                     sent: true,
@@ -103,40 +115,28 @@ impl Slot {
             } else {
                 waiting
             }
-        };
-        Slot {
-            waiting: self.waiting.map(again),
-            ..self
-        }
+        })
     }
 
     // It does not count as sent.
     pub(crate) fn unsent(self) -> Slot
         ensures { (part : Bytes) → slot_of result part ≡ m.unsent (slot_of self part) }
     {
-        let unsent = |waiting| Waiting {
+        self.with_waiting(|waiting| Waiting {
             sent: false,
             ..waiting
-        };
-        Slot {
-            waiting: self.waiting.map(unsent),
-            ..self
-        }
+        })
     }
 
     // It does not count as sent, and as last asked for now.
     pub(crate) fn unsent_now(self, clock: Clock) -> Slot
         ensures { (part : Bytes) → slot_of result part ≡ m.unsent_now clock.0 (slot_of self part) }
     {
-        let unsent = |waiting| Waiting {
+        self.with_waiting(|waiting| Waiting {
             sent: false,
             last: clock,
             ..waiting
-        };
-        Slot {
-            waiting: self.waiting.map(unsent),
-            ..self
-        }
+        })
     }
 }
 

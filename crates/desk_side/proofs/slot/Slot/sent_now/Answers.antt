@@ -1,5 +1,6 @@
-use Rattle.std.proofs.Common.{◌≡◌, cond, true, ap, ◌∙◌, rules}
+use Rattle.std.proofs.Common.{◌≡◌, cond, true, Option, ap₂, ◌∙◌, rules}
 use Rattle.std.specs.Option.{option_map}
+use Rattle.ids.specs.declared.Seq.{Seq}
 use Rattle.desk_side.specs.declared.slot.Waiting.{Waiting}
 use Rattle.desk_side.specs.Slots.{passes, slot_with}
 use Rattle.desk_side.proofs.Agree.{sent_with}
@@ -7,5 +8,5 @@ use Rattle.desk_side.proofs.slot.Slot.sent_now.Goals as goal
 
 pub returns : goal.returns
 returns c = λ part.
-    let e : c.map.result ≡ option_map (λ (x : Waiting). cond (passes c.args.which x.sent x.last.0) (record x { sent = true; last = c.args.clock }) x) c.args.self.waiting = search rules in
-    ap (slot_with c.args.self.seq part) e ∙ sent_with c.args.which c.args.clock c.args.self.seq part c.args.self.waiting
+    let e : c.with_waiting.result.waiting ≡ option_map (λ (x : Waiting). cond (passes c.args.which x.sent x.last.0) (record x { sent = true; last = c.args.clock }) x) c.args.self.waiting = search rules in
+    ap₂ (λ (q : Seq) (o : Option Waiting). slot_with q part o) c.with_waiting.ensures.seq e ∙ sent_with c.args.which c.args.clock c.args.self.seq part c.args.self.waiting

@@ -1,5 +1,6 @@
-use Rattle.std.proofs.Common.{◌≡◌, false, ap, ◌∙◌, rules}
+use Rattle.std.proofs.Common.{◌≡◌, false, Option, ap₂, ◌∙◌, rules}
 use Rattle.std.specs.Option.{option_map}
+use Rattle.ids.specs.declared.Seq.{Seq}
 use Rattle.desk_side.specs.declared.slot.Waiting.{Waiting}
 use Rattle.desk_side.specs.Slots.{slot_with}
 use Rattle.desk_side.proofs.Agree.{unsent_with}
@@ -7,5 +8,5 @@ use Rattle.desk_side.proofs.slot.Slot.unsent.Goals as goal
 
 pub returns : goal.returns
 returns c = λ part.
-    let e : c.map.result ≡ option_map (λ (x : Waiting). record x { sent = false }) c.args.self.waiting = search rules in
-    ap (slot_with c.args.self.seq part) e ∙ unsent_with c.args.self.seq part c.args.self.waiting
+    let e : c.with_waiting.result.waiting ≡ option_map (λ (x : Waiting). record x { sent = false }) c.args.self.waiting = search rules in
+    ap₂ (λ (q : Seq) (o : Option Waiting). slot_with q part o) c.with_waiting.ensures.seq e ∙ unsent_with c.args.self.seq part c.args.self.waiting
