@@ -9,13 +9,14 @@ use crate::requests::Requests;
 use crate::say::Say;
 use crate::slot::{Place, Slot, Waiting};
 use crate::state::Asking;
+use codec::call::Kind;
 use ids::{CallNumber, Clock, Seq};
 
 // How long a call is at most.
 pub(crate) const LONGEST_CALL: usize = 1_048_850;
 
 // The first byte of a call that takes a sheet.
-const TAKE: u8 = 7;
+const TAKE: u8 = Kind::Take as u8;
 
 // Bytes that are longer than any call are asked for as the empty call.
 fn shorten(call: &[u8]) -> &[u8]
