@@ -18,7 +18,7 @@ pub struct Parts {
 }
 
 // Why there are no parts.
-#[derive(Clone, Copy, PartialEq, Eq)]
+#[derive(Clone, Copy, Debug, PartialEq, Eq)]
 pub enum PartsError {
     // what was lent is not enough for the heads, or there are to be no parts at all
     TooSmall,
@@ -52,7 +52,7 @@ fn set_body(string: &mut Vec<u8>, head: usize, body: &[u8])
     ensures capacity { vec_capacity string.old ≤ vec_capacity string.new }
 {
     string.truncate(head);
-    let _ = string.extend_from_slice(body);
+    string.extend_from_slice(body).unwrap();
 }
 
 fn seal(string: &mut Vec<u8>, request: RequestId) -> Result<(), DoesNotFit>
@@ -98,10 +98,9 @@ impl Parts {
         ensures head { head_of self.new ≡ head_of self.old }
         ensures size { size_of self.new ≡ size_of self.old }
     {
-        match self.strings.get_mut(request.slot.0 as usize) {
-            Some(string) => seal(string, request),
-            None => Err(DoesNotFit),
-        }
+        let j = usize::from(request.slot.0);
+        let string = self.strings.get_mut(j).ok_or(DoesNotFit)?;
+        seal(string, request)
     }
 
     // So many strings in memory of so many bytes, each a head of zeros as yet.
