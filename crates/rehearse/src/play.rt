@@ -139,6 +139,7 @@ impl Play {
         if let Step::Script { name } = step {
             return self.script(name, console);
         }
+        // (`get_or_insert` gets no proof here: the kit's borrow checker stops at the type of the seats.)
         let mut seats = self.seats.unwrap_or(Seats::empty());
         seats.play(step, scratch, console)?;
         self.seats = Some(seats);
