@@ -4,11 +4,10 @@
 use codec::answer::Answer;
 use console::{Console, Handler, LONGEST_LINE, handle_lines, number_arguments};
 use ids::CallNumber;
-use interim::{MonotonicClock, Waiting};
+use interim::{MonotonicClock, Waiting, handle};
 use lines::event::read_desk;
 use lines::scratch::Event;
 use lines::shape::Scratch;
-use printing::print::write_sync;
 use printing::told::write_answer;
 use settings::desk_settings;
 use std::io;
@@ -30,20 +29,15 @@ impl Desk {
         console.say()
     }
 
-    // Messages are passed over, and no beat has anything to do, since no session is built yet.
     fn handle(&mut self, event: Event<'_>, console: &mut Console) -> io::Result<()> {
         match event {
-            Event::Clock(clock) => self.clock.set(clock).or_else(|error| console.report(error)),
             Event::Asked(call, _) => self.call(call, console),
-            Event::Sync(word) => {
-                let _ = write_sync(&mut console.text, word);
-                console.say()
-            }
-            _ => Ok(()),
+            _ => handle(&mut self.clock, event, console),
         }
     }
 }
 
+// A program of its own, and no generic one for house and desk: they differ in what reads a line, in settings and in what is known.
 #[derive(Drop)]
 struct Program {
     scratch: Scratch,

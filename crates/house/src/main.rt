@@ -2,44 +2,24 @@
 #![tactic(auto)]
 
 use console::{Console, Handler, LONGEST_LINE, handle_lines, number_arguments};
-use interim::MonotonicClock;
+use interim::{MonotonicClock, handle};
 use lines::event::read_house;
-use lines::scratch::Event;
 use lines::shape::Scratch;
-use printing::print::write_sync;
 use settings::house_settings;
 use std::io;
 
-// What it knows: so far, its clock.
-#[derive(Drop)]
-struct House {
-    clock: MonotonicClock,
-}
-
-impl House {
-    // Messages are passed over, and no beat has anything to do, since no session is built yet.
-    fn handle(&mut self, event: Event<'_>, console: &mut Console) -> io::Result<()> {
-        match event {
-            Event::Clock(clock) => self.clock.set(clock).or_else(|error| console.report(error)),
-            Event::Sync(word) => {
-                let _ = write_sync(&mut console.text, word);
-                console.say()
-            }
-            _ => Ok(()),
-        }
-    }
-}
-
+// What the house knows: so far, its clock.
+// A program of its own, and no generic one for house and desk: they differ in what reads a line, in settings and in what is known.
 #[derive(Drop)]
 struct Program {
     scratch: Scratch,
-    house: House,
+    clock: MonotonicClock,
 }
 
 impl Handler for Program {
     fn line(&mut self, line: &[u8], console: &mut Console) -> io::Result<()> {
         match read_house(&mut self.scratch, line) {
-            Ok(shape) => self.house.handle(self.scratch.event(shape), console),
+            Ok(shape) => handle(&mut self.clock, self.scratch.event(shape), console),
             Err(error) => console.report(error),
         }
     }
@@ -49,9 +29,7 @@ fn run(rt: &HostRuntime) -> anyhow::Result<()> {
     house_settings(number_arguments(rt)?.as_slice())?;
     let mut program = Program {
         scratch: Scratch::new(rt.alloc(), LONGEST_LINE)?,
-        house: House {
-            clock: MonotonicClock::new(),
-        },
+        clock: MonotonicClock::new(),
     };
     handle_lines(rt, &mut program)?;
     Ok(())
