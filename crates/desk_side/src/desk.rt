@@ -1,7 +1,7 @@
 // A desk.
 use crate::memory::Memory;
 
-// retry: the retransmission time in ms.
+// retry: the retransmission time in ms. It stands here and not in `Asking`, which is what turns change.
 #[derive(Drop)]
 pub struct Desk {
     pub(crate) retry: u64,

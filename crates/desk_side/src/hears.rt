@@ -32,7 +32,7 @@ impl Asking {
         Some((self.adopt(session), unsent))
     }
 
-    // The answer is `len` bytes of the message that came, from `start` on.
+    // The answer is `len` bytes of the message that came, from `start` on: two numbers, as they go into `Output::Tell`, which is public.
     fn hear_response(self, request: RequestId, start: usize, len: usize) -> Option<(Asking, Say)>
         ensures { (ps : List Bytes) (t : ℕ) (b : Bytes) → decided result t b ps self ≡ response_by request.slot.0 request.seq.0 (take len (drop start b)) (is_session request.session.0 (session_of self.session)) (desk_of ps self) }
     {

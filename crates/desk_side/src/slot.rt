@@ -17,7 +17,7 @@ pub(crate) struct Slot {
 }
 
 // A call that waits for its answer. sent: under the present session; first, last: when it was first and last asked for. The call itself stands
-// in the part of memory that belongs to the slot.
+// in the slot's part of lent memory, beside the slots: that memory is reserved once, and a slot is a value that is copied, so it cannot hold it.
 #[derive(Clone, Copy)]
 pub(crate) struct Waiting {
     pub(crate) number: CallNumber,
@@ -34,7 +34,7 @@ pub(crate) struct Place {
     ghost there: { slot.0 < 8 },
 }
 
-// Which of the calls that wait are asked for. An enum and no closure, since it is handed back before it is used.
+// Which of the calls that wait are asked for. An enum and no closure, since it is handed back in a `Say` before it is used.
 #[derive(Clone, Copy)]
 pub(crate) enum Which {
     // what was not sent under the present session

@@ -20,6 +20,7 @@ impl Asking {
     }
 
     // Calls that are due are asked for anew. As long as the house has not answered, one Hello says that all of them wait.
+    // (A struct of retry and clock would be `Which::Due`, made one call earlier; the clock is needed beside it.)
     pub(crate) fn tick(self, retry: u64, clock: Clock) -> (Asking, Option<Say>)
         ensures { (ps : List Bytes) (b : Bytes) → said_if result.1 clock.0 b ps result.0 ≡ m.desk_tick retry clock.0 (desk_of ps self) }
     {

@@ -11,7 +11,7 @@ use crate::say::Say;
 use crate::state::Asking;
 use ids::{Clock, DeskId};
 
-// From whom a desk hears.
+// From whom a desk hears. In lines, and in the model that is proved to be kept, the house has a number as desks have: so it is no variant of its own.
 const HOUSE: DeskId = DeskId(0);
 
 impl Asking {
@@ -31,6 +31,7 @@ impl Asking {
     }
 
     // What it decides to say at what comes, and knows then. A call that is taken goes into `requests`.
+    // Event, retry and clock are no struct: a message needs neither of the other two, a call no retry, so it would be taken apart here.
     fn come(
         self,
         requests: &mut Requests,
