@@ -3,10 +3,8 @@ ghost use Rattle.std.specs.Prelude.{◌≡◌, take, drop};
 ghost use Rattle.desk_side.specs.Turns.{Tells};
 
 use crate::output::Output;
+use codec::answer::EIGHT_WAIT;
 use ids::CallNumber;
-
-// The answer that refuses a call because eight wait already.
-const EIGHT_WAIT: [u8; 2] = [0, 11];
 
 // So many bytes from a place on, as far as there are any.
 fn cut(bytes: &[u8], start: usize, len: usize) -> &[u8]
