@@ -45,6 +45,13 @@ impl Console {
         })
     }
 
+    // The number of the line in hand, from 1; 0 before the first.
+    pub fn line_number(&self) -> u64
+        ensures { result ≡ self.now.line }
+    {
+        self.line
+    }
+
     // Prints `text` on standard output, and empties it.
     pub fn say(&mut self) -> io::Result<()>
         ensures { OnOk result (self.new.text.items ≡ []) }
@@ -63,7 +70,7 @@ impl Console {
     pub fn report<D: Display + Drop>(&mut self, why: D) -> io::Result<()>
         ensures { OnOk result (self.new.text.items ≡ []) }
     {
-        let number = self.line;
+        let number = self.line_number();
         write!(&mut self.text, "line {number}: {why}\n")?;
         self.complain()
     }

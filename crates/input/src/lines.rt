@@ -67,9 +67,11 @@ impl LineBuffer {
         Some(end + 1)
     }
 
-    // The line without its newline; None if it was too long.
+    // The line without its newline; None if it was too long. What is held is never longer than a line may be: the type keeps it, and says so
+    // here, since callers see no more of the buffer than its line.
     pub fn line(&self) -> Option<&[u8]>
-        ensures { option_map (λ x. x.now) result ≡ line_of self.now.held }
+        ensures value { option_map (λ x. x.now) result ≡ line_of self.now.held }
+        ensures within { length self.now.held.bytes ≤ self.now.longest }
     {
         (!self.overlong).then_some(self.bytes.as_slice())
     }
