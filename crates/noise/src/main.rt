@@ -16,7 +16,16 @@ const START: u64 = 0x9E37_79B9_7F4A_7C15;
 #[derive(Clone, Copy)]
 struct Chance(u64);
 
+// The bits of a number of chance that bits of a message are chosen by.
+fn drawn(number: u64) -> usize {
+    (number >> 11) as usize
+}
+
 impl Chance {
+    fn draw(&mut self) -> usize {
+        drawn(self.next())
+    }
+
     fn next(&mut self) -> u64 {
         self.0 ^= self.0 << 13;
         self.0 ^= self.0 >> 7;
@@ -25,21 +34,49 @@ impl Chance {
     }
 }
 
-// One of n by a number of chance.
-fn pick(number: u64, n: usize) -> usize
-    requires { 0 < n }
-{
-    (number >> 11) as usize % n
-}
-
-// The first of n, from one on and around, that is neither a nor b.
+// The first of n, from one on and around, that is neither a nor b. (It divides by n itself, so that a number is divided once only: divisions are
+// slow.)
 fn other(from: usize, a: usize, b: usize, n: usize) -> usize
     requires { 0 < n }
 {
     (0..3)
         .map(|k| from.wrapping_add(k) % n)
         .find(|bit| *bit != a && *bit != b)
-        .unwrap_or(from)
+        .unwrap_or(a)
+}
+
+// Which bits are flipped, each another.
+#[derive(Clone, Copy)]
+struct Damage {
+    first: usize,
+    second: usize,
+    third: Option<usize>,
+}
+
+impl Damage {
+    // Two or three bits of n by chance.
+    fn of(mut chance: Chance, n: usize) -> Damage
+        requires { 0 < n }
+    {
+        let first = chance.draw() % n;
+        let second = other(chance.draw(), first, first, n);
+        let last = chance.next();
+        let third = (last % 2 == 0).then(|| other(drawn(last), first, second, n));
+        Damage {
+            first,
+            second,
+            third,
+        }
+    }
+
+    // Done once more, it is taken back.
+    fn flip(self, bytes: &mut [u8]) {
+        flip(bytes, self.first);
+        flip(bytes, self.second);
+        if let Some(bit) = self.third {
+            flip(bytes, bit);
+        }
+    }
 }
 
 fn flip(bytes: &mut [u8], bit: usize) {
@@ -48,26 +85,15 @@ fn flip(bytes: &mut [u8], bit: usize) {
     }
 }
 
-// The same chance once more takes the damage back.
-fn damage(bytes: &mut [u8], mut chance: Chance) {
-    let n = bytes.len().wrapping_mul(8);
-    if n == 0 {
-        return;
-    }
-    let a = pick(chance.next(), n);
-    let b = other(pick(chance.next(), n), a, a, n);
-    flip(bytes, a);
-    flip(bytes, b);
-    let last = chance.next();
-    if last % 2 == 0 {
-        flip(bytes, other(pick(last, n), a, b, n));
-    }
-}
-
 fn passes_damaged(message: &mut [u8], chance: Chance) -> bool {
-    damage(message, chance);
+    let n = message.len().wrapping_mul(8);
+    if n == 0 {
+        return read_message(message).is_some();
+    }
+    let damage = Damage::of(chance, n);
+    damage.flip(message);
     let passes = read_message(message).is_some();
-    damage(message, chance);
+    damage.flip(message);
     passes
 }
 
