@@ -1,22 +1,15 @@
 -- A whole turn.
-use Rattle.std.proofs.Common.{◌≡◌, ℕ, Bool, true, false, eqb, List, map, Some, None, Option, sym, refl, ap, ◌∙◌, eqb-true}
+use Rattle.std.proofs.Common.{◌≡◌, ℕ, Bool, true, false, eqb, map, Some, None, Option, sym, refl, ap, ◌∙◌, eqb-true}
 use Rattle.codec.specs.Messages.{Msg, decode_msg}
 use Rattle.promise.specs.Bytes.{Bytes}
 use Rattle.promise.specs.Machine.{Machine, sheets}
 use Rattle.promise.specs.Desks as p
 use Rattle.asking.specs.Code.{Settings, desk, saying, byte_turn, decoded_turn, mind_turn, desk_turn}
 use Rattle.asking.specs.Desk as m
-use Rattle.desk_side.specs.declared.output.Event.{Event}
-use Rattle.desk_side.specs.declared.say.Say.{Say}
-use Rattle.desk_side.specs.declared.state.Asking.{Asking}
 use Rattle.desk_side.specs.declared.desk.Desk.{Desk}
 use Rattle.desk_side.specs.Desks.{desk_in, outs_in, Did}
-use Rattle.desk_side.specs.Said.{said_if, heard}
-use Rattle.desk_side.specs.Turns.{comes_of, came_of, decoded, turn_of, AsModel}
-
--- at what came, by its name
-pub turned : (r : Option Say) (ps : List Bytes) (a : Asking) (z : Settings) (t : ℕ) (d : m.Desk) (ev known : Event) → ev ≡ known → said_if r t (came_of known) ps a ≡ turn_of z (comes_of known) t d → said_if r t (came_of ev) ps a ≡ turn_of z (comes_of ev) t d
-turned r ps a z t d ev known e h = ap (λ (x : Event). said_if r t (came_of x) ps a) e ∙ h ∙ sym (ap (λ (x : Event). turn_of z (comes_of x) t d) e)
+use Rattle.desk_side.specs.Said.{heard}
+use Rattle.desk_side.specs.Turns.{decoded, turn_of, AsModel}
 
 pub from_house : (i t : ℕ) (o : Option Msg) (d : m.Desk) → i ≡ 0 → heard t o d ≡ decoded i t o d
 unfolding m.desk_from_by

@@ -40,11 +40,6 @@ abbrev pub said_if : Option Say → (clock : ℕ) → (came : Bytes) → (reques
 said_if None t b ps a = m.does_nothing (desk_of ps a)
 said_if (Some x) t b ps a = said x t b ps a
 
--- the same, if it decided anything; what it knows then stands beside what it says
-abbrev pub decided : Option (Asking × Say) → (clock : ℕ) → (came : Bytes) → (requests : List Bytes) → Asking → m.DeskTurn
-decided None t b ps a = m.does_nothing (desk_of ps a)
-decided (Some r) t b ps a = said r.1 t b ps r.0
-
 -- what a call's first message leaves: a Request for the call in its place, a Hello, or nothing
 abbrev pub says_first : (clock : ℕ) → Place → (alone : Bool) → (requests : List Bytes) → Asking → m.DeskTurn
 says_first t x v ps a = m.speaks t (m.first_said (desk_of ps a) x.slot.0 x.seq.0 (call_in (slice_index_or ps x.slot.0 [])) ((desk_of ps a).session == 0) v) (desk_of ps a).slots (desk_of ps a)

@@ -44,8 +44,8 @@ impl Asking {
     ghost use Rattle.desk_side.specs.View.{desk_of, requests_in};
 
     // A Request for the call that was put into its place; without a session a Hello, if no other call waits.
-    fn first_said(self, place: Place, alone: bool) -> Option<Say>
-        ensures { (ps : List Bytes) (t : ℕ) (b : Bytes) → said_if result t b ps self ≡ says_first t place alone ps self }
+    fn first_said(&self, place: Place, alone: bool) -> Option<Say>
+        ensures { (ps : List Bytes) (t : ℕ) (b : Bytes) → said_if result t b ps self.now ≡ says_first t place alone ps self.now }
     {
         if self.session.is_some() {
             Some(Say::Request { place })
@@ -55,14 +55,14 @@ impl Asking {
     }
 
     fn take_call(
-        mut self,
+        &mut self,
         requests: &mut Requests,
         place: Place,
         number: CallNumber,
         call: &[u8],
         clock: Clock,
-    ) -> (Asking, Option<Say>)
-        ensures { (b : Bytes) → said_if result.1 clock.0 b (requests_in requests.new) result.0 ≡ m.takes_call grabs clock.0 number.0 (m.shortened call.now) place.slot.0 place.seq.0 (desk_of (requests_in requests.old) self) }
+    ) -> Option<Say>
+        ensures { (b : Bytes) → said_if result clock.0 b (requests_in requests.new) self.new ≡ m.takes_call grabs clock.0 number.0 (m.shortened call.now) place.slot.0 place.seq.0 (desk_of (requests_in requests.old) self.old) }
     {
         let alone = self.none_waits();
         requests.put(place, call);
@@ -77,22 +77,20 @@ impl Asking {
             waiting: Some(waiting),
         };
         self.may_hold = self.may_hold || may_grab(shorten(call));
-        // one value for both, so that its ghost field is proved once
-        let asking = self;
-        (asking, asking.first_said(place, alone))
+        self.first_said(place, alone)
     }
 
     pub(crate) fn call(
-        self,
+        &mut self,
         requests: &mut Requests,
         number: CallNumber,
         call: &[u8],
         clock: Clock,
-    ) -> (Asking, Option<Say>)
-        ensures { (b : Bytes) → said_if result.1 clock.0 b (requests_in requests.new) result.0 ≡ m.desk_called grabs clock.0 number.0 call.now (desk_of (requests_in requests.old) self) }
+    ) -> Option<Say>
+        ensures { (b : Bytes) → said_if result clock.0 b (requests_in requests.new) self.new ≡ m.desk_called grabs clock.0 number.0 call.now (desk_of (requests_in requests.old) self.old) }
     {
         let Some(last) = self.free() else {
-            return (self, Some(Say::Busy { number }));
+            return Some(Say::Busy { number });
         };
         let place = Place {
             slot: last.slot,

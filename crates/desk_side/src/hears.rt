@@ -17,35 +17,36 @@ impl Asking {
     ghost use Rattle.asking.specs.Desk.{welcome, response_by};
     ghost use Rattle.asking.specs.House.{is_session};
     ghost use Rattle.desk_side.specs.Sessions.{session_of};
-    ghost use Rattle.desk_side.specs.Said.{decided, heard};
+    ghost use Rattle.desk_side.specs.Said.{said_if, heard};
     ghost use Rattle.desk_side.specs.View.{desk_of};
 
-    fn hear_welcome(self, nonce: Nonce, session: Session) -> Option<(Asking, Say)>
-        ensures { (ps : List Bytes) (t : ℕ) (b : Bytes) → decided result t b ps self ≡ welcome t nonce.0 session.0 (desk_of ps self) }
+    fn hear_welcome(&mut self, nonce: Nonce, session: Session) -> Option<Say>
+        ensures { (ps : List Bytes) (t : ℕ) (b : Bytes) → said_if result t b ps self.new ≡ welcome t nonce.0 session.0 (desk_of ps self.old) }
     {
         if !self.is_mine(nonce, session) {
             return None;
         }
-        let unsent = Say::Requests {
+        *self = self.adopt(session);
+        Some(Say::Requests {
             which: Which::NotSent,
-        };
-        Some((self.adopt(session), unsent))
+        })
     }
 
     // The answer is `len` bytes of the message that came, from `start` on: two numbers, as they go into `Output::Tell`, which is public.
-    fn hear_response(self, request: RequestId, start: usize, len: usize) -> Option<(Asking, Say)>
-        ensures { (ps : List Bytes) (t : ℕ) (b : Bytes) → decided result t b ps self ≡ response_by request.slot.0 request.seq.0 (take len (drop start b)) (is_session request.session.0 (session_of self.session)) (desk_of ps self) }
+    fn hear_response(&mut self, request: RequestId, start: usize, len: usize) -> Option<Say>
+        ensures { (ps : List Bytes) (t : ℕ) (b : Bytes) → said_if result t b ps self.new ≡ response_by request.slot.0 request.seq.0 (take len (drop start b)) (is_session request.session.0 (session_of self.old.session)) (desk_of ps self.old) }
     {
         if !self.is_session(request.session) {
             return None;
         }
         let place = Place::at(request.slot, request.seq)?;
         let number = self.waiting(place)?;
-        Some((self.settle(place), Say::Tell { number, start, len }))
+        *self = self.settle(place);
+        Some(Say::Tell { number, start, len })
     }
 
-    pub(crate) fn hear(self, bytes: &[u8]) -> Option<(Asking, Say)>
-        ensures { (ps : List Bytes) (t : ℕ) → decided result t bytes.now ps self ≡ heard t (decode_msg bytes.now) (desk_of ps self) }
+    pub(crate) fn hear(&mut self, bytes: &[u8]) -> Option<Say>
+        ensures { (ps : List Bytes) (t : ℕ) → said_if result t bytes.now ps self.new ≡ heard t (decode_msg bytes.now) (desk_of ps self.old) }
     {
         let message = read_message(bytes)?;
         match message {

@@ -1,4 +1,4 @@
-// What a desk knows of its asking: a value that is changed and handed back.
+// What a desk knows of its asking. What changes it as a whole takes the value and hands it back; a turn puts that in its place.
 ghost use Rattle.std.specs.Prelude.{◌≡◌, ◌≢◌, not, ◌&&◌, ◌==◌, ◌<◌, List, is_some, if◌then◌else◌, IfSome};
 ghost use Rattle.std.specs.List.{list_all, list_any, position_from};
 ghost use Rattle.std.specs.Option.{ForSome};
@@ -58,22 +58,22 @@ impl Asking {
     }
 
     // Its session, as messages say it.
-    pub(crate) fn session_said(self) -> Session
-        ensures { result.0 ≡ session_of self.session }
+    pub(crate) fn session_said(&self) -> Session
+        ensures { result.0 ≡ session_of self.now.session }
     {
         self.session.unwrap_or(NO_SESSION)
     }
 
-    fn first_idle(self) -> Option<usize>
-        ensures value { result ≡ position_from is_idle 0 self.slots }
+    fn first_idle(&self) -> Option<usize>
+        ensures value { result ≡ position_from is_idle 0 self.now.slots }
         ensures bound { IfSome result (λ j. j < 8) }
     {
         self.slots.iter().position(|slot| slot.is_idle())
     }
 
     // The first slot that is idle, and the seq of its last call.
-    pub(crate) fn free(self) -> Option<Place>
-        ensures { (ps : List Bytes) → m.first_idle 0 (desk_of ps self).slots ≡ free_place result }
+    pub(crate) fn free(&self) -> Option<Place>
+        ensures { (ps : List Bytes) → m.first_idle 0 (desk_of ps self.now).slots ≡ free_place result }
     {
         let j = self.first_idle()?;
         Some(Place {
@@ -82,36 +82,36 @@ impl Asking {
         })
     }
 
-    pub(crate) fn none_waits(self) -> bool
-        ensures { result ≡ list_all is_idle self.slots }
+    pub(crate) fn none_waits(&self) -> bool
+        ensures { result ≡ list_all is_idle self.now.slots }
     {
         self.slots.iter().all(|slot| slot.is_idle())
     }
 
     // Whether any call is to be asked for.
-    pub(crate) fn any_asked(self, which: Which) -> bool
-        ensures { result ≡ list_any (is_passing which) self.slots }
+    pub(crate) fn any_asked(&self, which: Which) -> bool
+        ensures { result ≡ list_any (is_passing which) self.now.slots }
     {
         self.slots.iter().any(|slot| slot.is_asked(which))
     }
 
     // Whether it may have something in hand, and has said nothing for long.
-    pub(crate) fn is_silent(self, clock: Clock) -> bool
-        ensures { (ps : List Bytes) → result ≡ silent clock.0 (desk_of ps self) }
+    pub(crate) fn is_silent(&self, clock: Clock) -> bool
+        ensures { (ps : List Bytes) → result ≡ silent clock.0 (desk_of ps self.now) }
     {
         self.session.is_some()
             && self.may_hold
             && clock.0.saturating_sub(self.spoke.0) >= LONGEST_SILENCE
     }
 
-    pub(crate) fn is_mine(self, nonce: Nonce, session: Session) -> bool
-        ensures { result ≡ (nonce.0 == self.nonce.0 && (not (session.0 == 0) && not self.answered)) }
+    pub(crate) fn is_mine(&self, nonce: Nonce, session: Session) -> bool
+        ensures { result ≡ (nonce.0 == self.now.nonce.0 && (not (session.0 == 0) && not self.now.answered)) }
     {
         nonce == self.nonce && session != NO_SESSION && !self.answered
     }
 
-    pub(crate) fn is_session(self, session: Session) -> bool
-        ensures { result ≡ is_session session.0 (session_of self.session) }
+    pub(crate) fn is_session(&self, session: Session) -> bool
+        ensures { result ≡ is_session session.0 (session_of self.now.session) }
     {
         self.session == Some(session)
     }
@@ -151,8 +151,8 @@ impl Asking {
     }
 
     // The number of the call that waits in just this place.
-    pub(crate) fn waiting(self, place: Place) -> Option<CallNumber>
-        ensures { result ≡ waits place.slot.0 place.seq self.slots }
+    pub(crate) fn waiting(&self, place: Place) -> Option<CallNumber>
+        ensures { result ≡ waits place.slot.0 place.seq self.now.slots }
     {
         let slot = self.slots[usize::from(place.slot.0)];
         let waiting = slot.waiting.filter(|_| slot.seq == place.seq)?;

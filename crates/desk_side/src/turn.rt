@@ -16,13 +16,13 @@ const HOUSE: DeskId = DeskId(0);
 
 impl Asking {
     ghost use Rattle.desk_side.specs.Desks.{settings};
-    ghost use Rattle.desk_side.specs.Said.{said_if, decided};
+    ghost use Rattle.desk_side.specs.Said.{said_if};
     ghost use Rattle.desk_side.specs.Turns.{comes_of, came_of, decoded, turn_of};
     ghost use Rattle.desk_side.specs.View.{desk_of, requests_in};
 
     // At a message. What does not come from the house is noise.
-    fn hear_from(self, from: DeskId, bytes: &[u8]) -> Option<(Asking, Say)>
-        ensures { (ps : List Bytes) (t : ℕ) → decided result t bytes.now ps self ≡ decoded from.0 t (decode_msg bytes.now) (desk_of ps self) }
+    fn hear_from(&mut self, from: DeskId, bytes: &[u8]) -> Option<Say>
+        ensures { (ps : List Bytes) (t : ℕ) → said_if result t bytes.now ps self.new ≡ decoded from.0 t (decode_msg bytes.now) (desk_of ps self.old) }
     {
         if from != HOUSE {
             return None;
@@ -30,22 +30,19 @@ impl Asking {
         self.hear(bytes)
     }
 
-    // What it decides to say at what comes, and knows then. A call that is taken goes into `requests`.
+    // What it decides to say at what comes. What it knows is changed in `self`; a call that is taken goes into `requests`.
     // Event, retry and clock are no struct: a message needs neither of the other two, a call no retry, so it would be taken apart here.
     fn come(
-        self,
+        &mut self,
         requests: &mut Requests,
         event: Event<'_>,
         retry: u64,
         clock: Clock,
-    ) -> (Asking, Option<Say>)
-        ensures { said_if result.1 clock.0 (came_of event.entry) (requests_in requests.new) result.0 ≡ turn_of (settings retry) (comes_of event.entry) clock.0 (desk_of (requests_in requests.old) self) }
+    ) -> Option<Say>
+        ensures { said_if result clock.0 (came_of event.entry) (requests_in requests.new) self.new ≡ turn_of (settings retry) (comes_of event.entry) clock.0 (desk_of (requests_in requests.old) self.old) }
     {
         match event {
-            Event::Message { from, bytes } => match self.hear_from(from, bytes) {
-                Some((asking, say)) => (asking, Some(say)),
-                None => (self, None),
-            },
+            Event::Message { from, bytes } => self.hear_from(from, bytes),
             Event::Call { number, call } => self.call(requests, number, call, clock),
             Event::Tick => self.tick(retry, clock),
         }
@@ -59,8 +56,7 @@ impl Memory {
     fn turn(&mut self, event: Event<'_>, retry: u64, clock: Clock)
         ensures { Did self.new (came_of event.entry) (turn_of (settings retry) (comes_of event.entry) clock.0 (desk_of_memory self.old)) }
     {
-        let (asking, say) = self.asking.come(&mut self.requests, event, retry, clock);
-        self.asking = asking;
+        let say = self.asking.come(&mut self.requests, event, retry, clock);
         match say {
             Some(say) => self.say(say, clock),
             None => self.outputs.clear(),

@@ -9,10 +9,10 @@ use Rattle.desk_side.proofs.state.Asking.first_said.Goals as goal
 
 pub returns-then-is_some : goal.returns-then-is_some
 returns-then-is_some c = λ ps t b.
-    let some : (session_of c.args.self.session == 0) ≡ false = search rules in
-    first_request t c.args.place.slot.0 c.args.place.seq.0 (call_in (get_or ps c.args.place.slot.0 [])) c.args.alone (desk_of ps c.args.self) some
+    let some : (session_of c.args.self.now.session == 0) ≡ false = search rules in
+    first_request t c.args.place.slot.0 c.args.place.seq.0 (call_in (get_or ps c.args.place.slot.0 [])) c.args.alone (desk_of ps c.args.self.now) some
 
 pub returns-else-is_some : goal.returns-else-is_some
 returns-else-is_some c = λ ps t b.
-    let none : (session_of c.args.self.session == 0) ≡ true = search rules in
-    ap (λ (x : Option Say). said_if x t b ps c.args.self) c.then_some.ensures ∙ first_alone t c.args.place c.args.alone b ps c.args.self none
+    let none : (session_of c.args.self.now.session == 0) ≡ true = search rules in
+    ap (λ (x : Option Say). said_if x t b ps c.args.self.now) c.then_some.ensures ∙ first_alone t c.args.place c.args.alone b ps c.args.self.now none

@@ -9,15 +9,15 @@ use Rattle.desk_side.proofs.state.Asking.tick.Goals as goal
 
 pub returns-then-not-any_asked : goal.returns-then-not-any_asked
 returns-then-not-any_asked c = λ ps b.
-    let none : list_any (is_passing (Due c.args.retry c.args.clock)) c.args.self.slots ≡ false = search rules in
-    c.keep_alive.ensures ps b ∙ tick_alive c.args.retry c.args.clock.0 (desk_of ps c.args.self) (any_due_lem c.args.retry c.args.clock c.args.self.slots ps ∙ none)
+    let none : list_any (is_passing (Due c.args.retry c.args.clock)) c.args.self.now.slots ≡ false = search rules in
+    c.keep_alive.ensures ps b ∙ tick_alive c.args.retry c.args.clock.0 (desk_of ps c.args.self.now) (any_due_lem c.args.retry c.args.clock c.args.self.now.slots ps ∙ none)
 
 pub returns-then-self : goal.returns-then-self
 returns-then-self c = λ ps b.
-    let some : list_any (is_passing (Due c.args.retry c.args.clock)) c.args.self.slots ≡ true = search rules in
-    tick_ask c.args.retry c.args.clock.0 (desk_of ps c.args.self) (any_due_lem c.args.retry c.args.clock c.args.self.slots ps ∙ some) (search rules)
+    let some : list_any (is_passing (Due c.args.retry c.args.clock)) c.args.self.now.slots ≡ true = search rules in
+    tick_ask c.args.retry c.args.clock.0 (desk_of ps c.args.self.now) (any_due_lem c.args.retry c.args.clock c.args.self.now.slots ps ∙ some) (search rules)
 
 pub returns : goal.returns
 returns c = λ ps b.
-    let some : list_any (is_passing (Due c.args.retry c.args.clock)) c.args.self.slots ≡ true = search rules in
-    tick_hello c.args.retry c.args.clock.0 (desk_of ps c.args.self) (desk_of ps c.start_over.result) (any_due_lem c.args.retry c.args.clock c.args.self.slots ps ∙ some) (search rules) (c.start_over.ensures ps)
+    let some : list_any (is_passing (Due c.args.retry c.args.clock)) c.args.self.now.slots ≡ true = search rules in
+    tick_hello c.args.retry c.args.clock.0 (desk_of ps c.args.self.now) (desk_of ps c.start_over.result) (any_due_lem c.args.retry c.args.clock c.args.self.now.slots ps ∙ some) (search rules) (c.start_over.ensures ps)
