@@ -1,5 +1,5 @@
 -- Parts of a memory that was written over.
-use Rattle.std.proofs.Common.{◌≡◌, ℕ, ◌+◌, ◌≤◌, List, ◌++◌, length, take, drop, ap, ◌∙◌, arith, rules}
+use Rattle.std.proofs.Common.{◌≡◌, ℕ, ◌+◌, ◌-◌, ◌≤◌, List, ◌++◌, length, replicate, take, drop, ap, ◌∙◌, arith, rules}
 use Rattle.std.specs.List.{copy_within, slice_range}
 use lib.Seq.{paste}
 use Rattle.std.proofs.lemmas.List.{places, same_lists}
@@ -9,6 +9,16 @@ use Rattle.table.specs.View.{cut, sheet_of}
 -- n bytes moved from one place to another
 pub moved_within : (m m' : List ℕ) (from to n : ℕ) → m' ≡ copy_within m from (from + n) to → m' ≡ paste m to (drop from m) n
 moved_within m m' from to n e = e ∙ ap (paste m to (drop from m)) (omega arith)
+
+-- zeros behind a memory, and n of its bytes copied into them
+pub zeros_behind : (m : List ℕ) (u v len : ℕ) → u ≡ v → v ≡ length m → take (u + len) m ++ replicate (u + len - v) 0 ≡ m ++ replicate len 0
+zeros_behind m u v len e f = same_lists _ _ (search (rules, places)) (λ i d x. grind (arith, places))
+
+pub copied_behind : (m r s : List ℕ) (u v from n len : ℕ) → u ≡ v → v ≡ length m → from + n ≤ v → n ≤ len → r ≡ take (u + len) m ++ replicate (u + len - v) 0 → s ≡ copy_within r from (from + n) u → s ≡ m ++ (slice_range m from (from + n) ++ replicate (len - n) 0)
+copied_behind m r s u v from n len e f l h p q =
+    let w = moved_within r s from u n q in
+    let z = ap (λ (x : List ℕ). paste x u (drop from x) n) (p ∙ zeros_behind m u v len e f) in
+    w ∙ z ∙ same_lists _ _ (search (rules, places)) (λ i d x. grind (arith, places))
 
 -- a part before what was written is as it was
 pub paste_below : (m s : List ℕ) (at k a n : ℕ) → at + k ≤ length m → k ≤ length s → a + n ≤ at → cut a n (paste m at s k) ≡ cut a n m
